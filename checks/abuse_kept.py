@@ -1,8 +1,11 @@
 """What checks/abuse does to a server that keeps its book: its limits hold, and no firm stops another."""
+import collections
 import os
 import resource
+import selectors
 import signal
 import socket
+import struct
 import subprocess
 import sys
 import threading
@@ -21,6 +24,10 @@ UNNAMED_WAIT = 20  # the seconds that a server has to close what it is to close
 MOST_BEHIND = 8
 TRIES = 5  # of what has to be quick: on a busy machine one of them is
 HOUSE = f"{TOP}/examples/rows.house"
+CROWD, CROWD_CALLS, CROWD_SENDS = 200, 100, 8_000  # a firm's connections, the house's calls beside them, and what is sent on each
+MOST_CROWDED = 6  # the seconds for which calls are made beside them
+MOST_BESIDE = 0.1  # the seconds that the house's calls may take beside them, where ten times those alone are less
+KNOCKERS, KNOCKS, KNOCKING, KNOCKERS_HOLD = 3, 4_200, 6, 4_000  # processes, and for each: connects a second, seconds, and connections
 
 
 class Peer:
@@ -183,9 +190,9 @@ def entries(room):
         yield called(server, "CCC", "D", 40)[0] == 30, "and makes the others'"
 
 
-def logged_on(server, firm, name):
+def logged_on(server, firm, name, seconds=PATIENCE):
     """A connection of a firm once another one, which has ended, isn't counted any more; or none."""
-    until = time.monotonic() + PATIENCE
+    until = time.monotonic() + seconds
     while time.monotonic() < until:
         peer = server.peer(firm, name)
         # (where there are too many, the Logon is answered, and the Logout follows at once)
@@ -248,6 +255,77 @@ def connections(room):
         yield min(a_call(houses[0]) for _ in range(TRIES)) < 1, "the house's call waits for none"
 
 
+class Beating(Peer):
+    """One with a HeartBtInt of a second, which it keeps, and calls that come behind others."""
+
+    def __init__(self, port):
+        self.logon = "98=0|108=1|1137=9|"
+        super().__init__(port, "BBB", "beats")
+
+    def send(self, kind, rest=""):
+        super().send(kind, self.logon if kind == "A" else rest)
+
+    def beat(self, seconds):
+        """Sends a Heartbeat each half second: whether the server still has the connection."""
+        until = time.monotonic() + seconds
+        while time.monotonic() < until:
+            self.send("0")
+            self.read(seconds=0.5)
+        return self.text() == "" and b"\x0135=5\x01" not in self.got
+
+
+def answered(peer, seconds):
+    """When calls were answered, in seconds from now on, in so many seconds."""
+    begun, at = time.monotonic(), []
+    while time.monotonic() - begun < seconds:
+        before = peer.made()
+        peer.read(seconds=0.02)
+        at += [time.monotonic() - begun] * (peer.made() - before)
+    return at
+
+
+def most_within(at, seconds):
+    """How many of these moments fall into so long at the most."""
+    return max(sum(it <= other < it + seconds for other in at) for it in at) if at else 0
+
+
+def rates(room):
+    """A firm's rate: heartbeats don't wait for it, its connections share it, and no border lets twice the rate pass."""
+    with Server(room, "rates", "--rate", "5", "--per-firm", "2", workers=1) as server:
+        busy, beats = server.peer("BBB", "busy"), Beating(server.port)
+        busy.read(b"\x0135=A\x01")
+        busy.raises(400)
+        well = beats.beat(6)
+        yield well, "beside 400 calls that wait another connection of the firm is heard"
+        before = busy.made()
+        beats.raises(10)
+        made = len(answered(beats, 6))
+        busy.read(seconds=0.1)
+        took = busy.made() - before
+        yield made >= 8 and took >= 8, f"of two connections on which calls wait one has {made} made, the other {took}"
+    with Server(room, "place", "--rate", "1", "--per-firm", "1", workers=1) as server:
+        took = []
+        while not took or (min(took) >= 0.5 and len(took) < TRIES):
+            busy = logged_on(server, "BBB", f"busy{len(took)}")
+            busy.raises(400)
+            busy.read(b"\x0135=P\x01")
+            busy.close()
+            begun = time.monotonic()
+            logged_on(server, "BBB", "again", UNNAMED_WAIT).close()
+            took.append(time.monotonic() - begun)
+        yield min(took) < 0.5, f"one that has gone gives its place back in {min(took):.1f} s, with calls unread"
+    with Server(room, "border", "--rate", "100", workers=1) as server:
+        worst = []
+        while not worst or (min(worst) > 80 and len(worst) < TRIES):
+            peer = server.peer("BBB", f"border{len(worst)}")
+            peer.read(b"\x0135=A\x01")
+            peer.raises(400)
+            worst.append(most_within(answered(peer, 3), 0.5))
+            peer.close()
+            time.sleep(2)
+        yield min(worst) <= 80, f"at 100 a second {min(worst)} calls are made within half a second"
+
+
 def a_logon(server, firm):
     """The seconds until a firm has logged on."""
     begun = time.monotonic()
@@ -274,9 +352,9 @@ def race(room):
         yield made == 8000, f"of {RACING * 1000} calls of a firm on {RACING} connections {made} are made, and 8000 may be"
 
 
-def is_open(connection):
+def is_open(connection, wait=0.01):
     """Whether the server still has a connection on which it has nothing to say."""
-    connection.settimeout(0.01)
+    connection.settimeout(wait)
     try:
         return connection.recv(1) != b""
     except TimeoutError:
@@ -286,16 +364,16 @@ def is_open(connection):
 
 
 def unnamed(room):
-    """Of 300 connections without a Logon that one worker has those that came last stay, 256 of them."""
+    """Of 2,092 connections without a Logon that one worker has those that came last stay, 2,048 of them."""
     with Server(room, "unnamed", workers=1) as server:
         held = []
-        for _ in range(300):
+        for _ in range(2_092):
             held.append(socket.create_connection(("127.0.0.1", server.port), timeout=PATIENCE))
         until = time.monotonic() + UNNAMED_WAIT
         while sum(map(is_open, held[:44])) and time.monotonic() < until:
             time.sleep(0.1)
-        stay = [at for at, it in enumerate(held) if is_open(it)]
-        yield stay == list(range(44, 300)), f"of 300 silent connections {len(stay)} stay, from the {stay[0] + 1 if stay else 0}. on, and 256 may, from the 45. on"
+        stay = [at for at, it in enumerate(held) if is_open(it, 0.001)]
+        yield stay == list(range(44, 2_092)), f"of 2,092 silent connections {len(stay)} stay, from the {stay[0] + 1 if stay else 0}. on, and 2,048 may, from the 45. on"
 
 
 def behind(room):
@@ -347,7 +425,7 @@ def silent(room):
 def patience(room):
     """A firm that says nothing for three hours, by a clock that jumps, and the house beside it."""
     compiled(f"{TOP}/checks/jumping.c", f"{room}/jumping.so")
-    env = {"LD_PRELOAD": f"{room}/jumping.so", "JUMP": f"{room}/jump", "JUMP_BY": str(3 * 3600 + 60)}
+    env = {"LD_PRELOAD": f"{room}/jumping.so", "JUMP": f"{room}/jump", "JUMP_BY": str(3 * 3600 + 60), "JUMP_ALL": "1"}
     with Server(room, "patience", env=env) as server:
         peers = [server.peer("BBB"), server.peer("HSE")]
         well = all(it.read(b"\x0135=A\x01") for it in peers)
@@ -457,14 +535,140 @@ def reconnecting(room):
         yield well, f"beside a firm that connects anew for each call the house has {max(shares):.2f} of its calls a second"
 
 
-PARTS = {it.__name__: it for it in (entries, race, connections, unnamed, behind, silent, logons, patience, deaf, reconnecting)}
+def late_ones(seconds):
+    """Of these seconds all but the longest hundredth are as short as this."""
+    return sorted(seconds)[len(seconds) * 99 // 100]
+
+
+def flood(peers, sent, stop):
+    """Sends the same bytes on each connection, as far as each takes them, and reads what comes, until it is stopped."""
+    left = {it.socket: sent for it in peers}
+    with selectors.DefaultSelector() as waits:
+        for it in left:
+            it.setblocking(False)
+            waits.register(it, selectors.EVENT_READ | selectors.EVENT_WRITE)
+        while not stop.is_set() and any(left.values()):
+            for key, ready in waits.select(0.1):
+                try:
+                    if ready & selectors.EVENT_READ:
+                        key.fileobj.recv(1 << 18)
+                    if ready & selectors.EVENT_WRITE:
+                        left[key.fileobj] = left[key.fileobj][key.fileobj.send(left[key.fileobj][: 1 << 16]) :]
+                        if not left[key.fileobj]:
+                            waits.modify(key.fileobj, selectors.EVENT_READ)
+                except OSError:
+                    pass
+
+
+def beside(house, peers, sent, count):
+    """The seconds of so many calls of the house beside connections that call all the time."""
+    stop = threading.Event()
+    thread = threading.Thread(target=flood, args=(peers, sent, stop))
+    thread.start()
+    time.sleep(0.5)
+    took, begun = [], time.monotonic()
+    while len(took) < count and time.monotonic() - begun < MOST_CROWDED:
+        took.append(a_call(house))
+    stop.set()
+    thread.join()
+    return late_ones(took)
+
+
+def crowded(room, name):
+    """What the house's calls take alone, and beside a firm that calls on many connections at once."""
+    with Server(room, name, workers=1) as server:
+        house = server.peer("HSE")
+        house.read(b"\x0135=A\x01")
+        alone = late_ones([a_call(house) for _ in range(CROWD_CALLS)])
+        peers = [server.peer("BBB") for _ in range(CROWD)]
+        well = all(it.read(b"\x0135=A\x01") for it in peers)
+        call = "70=S1|71=0|626=91|5001=AAA|5004=1|"
+        sent = b"".join(message("J", "BBB", 2 + n, call) for n in range(CROWD_SENDS))
+        took = beside(house, peers, sent, CROWD_CALLS)
+        well = well and server.process.poll() is None
+        for it in peers:
+            it.close()
+        return well, alone, took
+
+
+def turns(room):
+    """A firm that calls on 100 connections at once, beside the house: its connections share the time of one turn."""
+    tries = []
+    while not any(well and took <= max(10 * alone, MOST_BESIDE) for well, alone, took in tries) and len(tries) < 3:
+        tries.append(crowded(room, f"turns-{len(tries)}"))
+    well, alone, took = tries[-1]
+    well = well and took <= max(10 * alone, MOST_BESIDE)
+    yield well, f"beside {CROWD} connections of a firm the house's calls take {1000 * took:.0f} ms, alone {1000 * alone:.0f} ms"
+
+
+def knock(port):
+    """Connects so often a second as is asked for, says nothing, and keeps the last connections open."""
+    held, begun, count = collections.deque(), time.monotonic(), 0
+    while time.monotonic() - begun < KNOCKING:
+        if count > (time.monotonic() - begun) * KNOCKS:
+            time.sleep(0.001)
+            continue
+        count += 1
+        knocking = socket.socket()
+        knocking.setsockopt(socket.SOL_SOCKET, socket.SO_LINGER, struct.pack("ii", 1, 0))
+        knocking.setblocking(False)
+        knocking.connect_ex(("127.0.0.1", port))
+        held.append(knocking)
+        if len(held) > KNOCKERS_HOLD:
+            held.popleft().close()
+    print(count / (time.monotonic() - begun), flush=True)
+
+
+def late_logon(server, got):
+    """Connects, and logs on 300 ms later: notes whether it got in."""
+    try:
+        with socket.create_connection(("127.0.0.1", server.port), timeout=PATIENCE) as it:
+            time.sleep(0.3)
+            it.sendall(message("A", "AAA", 1, "98=0|108=0|1137=9|"))
+            it.settimeout(5)
+            got.append(b"\x0135=A\x01" in it.recv(4096))
+    except OSError:
+        got.append(False)
+
+
+def knocked(room, name):
+    """How many of twenty get in that log on 300 ms after they connect, and how many a second connect beside them and say nothing."""
+    with Server(room, name, workers=4) as server:
+        words = [sys.executable, "-B", os.path.abspath(__file__), "knock", str(server.port)]
+        knockers = [subprocess.Popen(words, stdout=subprocess.PIPE) for _ in range(KNOCKERS)]
+        time.sleep(1.5)
+        got, threads = [], []
+        for _ in range(20):
+            threads.append(threading.Thread(target=late_logon, args=(server, got)))
+            threads[-1].start()
+            time.sleep(0.1)
+        for it in threads:
+            it.join()
+        rate = sum(float(it.communicate()[0]) for it in knockers)
+        return got.count(True), rate
+
+
+def strangers(room):
+    """A Logon 300 ms after its connect, beside many that connect and say nothing."""
+    tries = [knocked(room, "strangers-0")]
+    while max(tries)[0] < 18 and len(tries) < 3:
+        tries.append(knocked(room, f"strangers-{len(tries)}"))
+    count, rate = max(tries)
+    yield count >= 18, f"{count} of 20 Logons 300 ms after their connects get in beside {rate:.0f} connects a second"
+
+
+PARTS = {it.__name__: it for it in (turns, strangers, rates, entries, race, connections, unnamed, behind, silent, logons, patience, deaf, reconnecting)}
 
 
 def allow_descriptors():
     """Has the harness hold as many connections as it may."""
     _, hard = resource.getrlimit(resource.RLIMIT_NOFILE)
-    resource.setrlimit(resource.RLIMIT_NOFILE, (min(hard, 8192), hard))
+    resource.setrlimit(resource.RLIMIT_NOFILE, (min(hard, 16_384), hard))
 
 
 if __name__ == "__main__":
-    anew(int(sys.argv[1]), threading.Event())
+    allow_descriptors()
+    if sys.argv[1] == "knock":
+        knock(int(sys.argv[2]))
+    else:
+        anew(int(sys.argv[1]), threading.Event())

@@ -38,6 +38,8 @@ pub struct Board {
     /// The second of the watch: it stands while the whole program stands.
     second: AtomicU64,
     ready: AtomicBool,
+    /// Whether the wall clock can't be told.
+    timeless: AtomicBool,
     acceptor: AtomicU64,
     /// The second since which the journal's lock is held, and one more; 0 while it isn't. In the
     /// start it is held by whoever reads the journal, and each piece that was read is a new second.
@@ -123,6 +125,7 @@ impl Board {
             cells: cells_for(alloc, workers)?,
             second: AtomicU64::new(0),
             ready: AtomicBool::new(false),
+            timeless: AtomicBool::new(false),
             acceptor: AtomicU64::new(ENDED),
             journal: AtomicU64::new(1),
             entries: AtomicU64::new(0),
@@ -271,14 +274,15 @@ impl Board {
 
     /// A group of so many entries took so many microseconds.
     pub fn recorded<R: Wait + Clock>(&self, rt: &R, count: u64, micros: u64) {
-        for i in 0..BOUNDS.len() {
+        // Whoever reads goes the other way, so that no bucket is seen above a wider one.
+        self.syncs.fetch_add(1, Ordering::SeqCst);
+        for i in (0..BOUNDS.len()).rev() {
             if micros <= BOUNDS[i] {
                 if let Some(within) = self.within.get(i) {
                     add(within);
                 }
             }
         }
-        self.syncs.fetch_add(1, Ordering::SeqCst);
         self.sync_micros.fetch_add(micros, Ordering::SeqCst);
         self.synced.store(load(&self.second), Ordering::SeqCst);
         if micros > SLOW_SYNC {
@@ -451,6 +455,19 @@ impl Board {
         stuck(&pulses, load(&self.second), most)
     }
 
+    /// What `/health` says stands still: a part, or the clock.
+    fn unhealthy(&self) -> Option<Part> {
+        match self.stuck(MOST_STILL) {
+            None if self.timeless.load(Ordering::SeqCst) => Some(Part::Clock),
+            part => part,
+        }
+    }
+
+    /// Whether the wall clock can be told.
+    pub fn tells_time(&self, is_told: bool) {
+        self.timeless.store(!is_told, Ordering::SeqCst);
+    }
+
     /// How the syncs stand.
     fn snapshot_syncs(&self) -> Syncs {
         let mut within = [0u64; BUCKETS];
@@ -493,7 +510,7 @@ impl Board {
         Ok(Snapshot {
             began: load(&self.began),
             is_ready: self.ready.load(Ordering::SeqCst),
-            stuck: self.stuck(MOST_STILL),
+            stuck: self.unhealthy(),
             entries: small(load(&self.entries)),
             most_entries: Number::MAX,
             firms,

@@ -10,6 +10,7 @@
 mod board;
 mod cell;
 mod log;
+mod pace;
 mod saying;
 mod tallies;
 mod telling;
@@ -18,6 +19,7 @@ mod version;
 pub use board::{Board, number, text};
 pub use cell::Work;
 pub use log::{Log, Written};
+pub use pace::Pace;
 pub use saying::{say_lack, say_started};
 pub use tallies::Tallies;
 pub use telling::Teller;

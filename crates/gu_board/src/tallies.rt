@@ -5,10 +5,11 @@
 //! stands in the way of may be one too few.
 
 use crate::board::Board;
+use crate::pace::{FirmPace, Pace};
 use crate::saying::say_closed;
 use gu_base::{AllocId, Answer, FirmId, Memory};
 use gu_book::Book;
-use gu_limits::{Ending, Limits, begun, calls_in};
+use gu_limits::{Ending, Limits};
 use indexmap::IndexMap;
 use std::alloc::{AllocError, Global};
 use std::sync::atomic::{AtomicBool, AtomicU64, Ordering};
@@ -53,8 +54,7 @@ struct Tally {
     entries: AtomicU64,
     /// Its connections that have logged on.
     open: AtomicU64,
-    /// The last second in which it called, and how many calls it made then.
-    pace: AtomicU64,
+    pace: FirmPace,
     closures: Closures,
 }
 
@@ -64,21 +64,9 @@ impl Tally {
         Tally {
             entries: AtomicU64::new(0),
             open: AtomicU64::new(0),
-            pace: AtomicU64::new(0),
+            pace: FirmPace::new(),
             closures: Closures::new(),
         }
-    }
-
-    /// Counts a call in this second.
-    fn count_call(&self, second: u32) {
-        let pace = self.pace.load(Ordering::SeqCst);
-        if let Some(new) = begun(pace, second) {
-            // Where another worker has begun the second meanwhile, its count stands.
-            let _ = self
-                .pace
-                .compare_exchange(pace, new, Ordering::SeqCst, Ordering::SeqCst);
-        }
-        self.pace.fetch_add(1, Ordering::SeqCst);
     }
 }
 
@@ -190,35 +178,55 @@ impl Tallies {
         }
     }
 
-    /// The second that it is, from the start on; 0 where the clock can't be read.
-    fn second<R: Clock>(&self, rt: &R) -> u32 {
+    /// The nanoseconds since the start; 0 where the clock can't be read.
+    fn now<R: Clock>(&self, rt: &R) -> u64 {
         match self.start {
             Some(start) => match start.elapsed(rt) {
-                Ok(took) => took.as_secs().min(u64::from(u32::MAX)) as u32,
+                Ok(took) => took.as_nanos().min(u128::from(u64::MAX)) as u64,
                 Err(_) => 0,
             },
             None => 0,
         }
     }
 
-    /// Whether a firm has made all the calls that it may make in this second, so that its further
-    /// messages wait. The house never has.
-    pub fn is_late<R: Clock>(&self, rt: &R, firm: &FirmId) -> bool {
-        if self.limits.rate.is_none() {
+    /// Whether firms have a rate.
+    pub fn has_rate(&self) -> bool {
+        self.limits.rate.is_some()
+    }
+
+    /// Whether a firm has had its rate, so that a further call on a connection with this pace
+    /// waits. The house never has.
+    pub fn is_late<R: Clock>(&self, rt: &R, firm: &FirmId, mine: &Pace) -> bool {
+        if self.limits.rate_of(*firm == self.house).is_none() {
             return false;
         }
         match self.firms.get(firm) {
-            Some(tally) => {
-                let calls = calls_in(tally.pace.load(Ordering::SeqCst), self.second(rt));
-                self.limits.lets_wait(*firm == self.house, calls)
-            }
+            Some(tally) => tally.pace.is_late(mine, self.now(rt)),
             None => false,
+        }
+    }
+
+    /// Notes whether calls of a firm wait on a connection with this pace.
+    pub fn note_waiting(&self, firm: &FirmId, mine: &Pace, waits: bool) {
+        if let Some(tally) = self.firms.get(firm) {
+            tally.pace.note(mine, waits);
+        }
+    }
+
+    /// Counts so many messages that a firm has sent on a connection with this pace, or has sent
+    /// again.
+    pub fn count_messages<R: Clock>(&self, rt: &R, firm: &FirmId, mine: &Pace, count: u64) {
+        let Some(rate) = self.limits.rate_of(*firm == self.house) else {
+            return;
+        };
+        if let Some(tally) = self.firms.get(firm) {
+            tally.pace.count(mine, self.now(rt), rate, count);
         }
     }
 
     /// Counts a call of a firm that is to be made; or tells why it isn't, and then it doesn't
     /// count.
-    pub fn begin_call<R: Clock>(&self, rt: &R, firm: &FirmId) -> Result<(), Ending> {
+    pub fn begin_call(&self, firm: &FirmId) -> Result<(), Ending> {
         if self.limits.counts_entries() {
             let (mine, all) = self.count(firm);
             let is_house = *firm == self.house;
@@ -226,11 +234,6 @@ impl Tallies {
                 self.take_back(firm);
                 self.note(firm, ending);
                 return Err(ending);
-            }
-        }
-        if self.limits.rate.is_some() {
-            if let Some(tally) = self.firms.get(firm) {
-                tally.count_call(self.second(rt));
             }
         }
         Ok(())

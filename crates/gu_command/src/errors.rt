@@ -46,6 +46,9 @@ pub enum RecordError {
     /// That program gave no word, in time, that the server may go on.
     #[error("no word came from the other machines")]
     Silent,
+    /// The journal's path leads to another file or to none, or the file has become shorter.
+    #[error("moved, or cut")]
+    Gone,
     /// The file can't be written or synced.
     #[error("cannot write: {0}")]
     Disk(io::Error),

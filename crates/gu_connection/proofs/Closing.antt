@@ -153,6 +153,15 @@ ticked_last house opening before behind seat (inl same) = inl (seat, same)
 ticked_last house opening before behind seat (inr s) =
     inr (s.1, s.0, inr s.2, (inl seat, ([], inl s.3)))
 
+-- a Tick behind which a Logout says that the clock was set
+pub timed_out : (house : List ℕ) (opening : HouseAndHistory) (before ticked behind : Standing)
+    → behind.seat ≡ before.seat
+    → Speaks event.Tick before.session ticked.session before.out ticked.out
+    → IsLoggedOut house ticked.session ticked.out behind.out → Breaks house opening before behind
+timed_out house opening before ticked behind seat speaks logged =
+    let at : List ℕ → Type 0 = λ o. IsLoggedOut house ticked.session o behind.out in
+    inr (speaks.0, ticked.session, inr speaks.1, (inl seat, subst at speaks.2 logged))
+
 -- a Tick behind which the reports are not told
 pub untold : (house : List ℕ) (opening : HouseAndHistory) (before ticked behind : Standing) → Ticks before ticked
     → Looks opening ticked.seat behind.seat → behind.out ≡ ticked.out → Breaks house opening before behind

@@ -67,6 +67,7 @@ rests_at left.Nothing last behind h end = end
 rests_at left.Unread last behind h end = end
 rests_at left.Untaken last behind h end = absurd h
 rests_at left.Late last behind h end = absurd h
+rests_at left.Spent last behind h end = absurd h
 
 -- the end of a turn that has taken all messages
 pub rested : {E : Type 0} (r : Result Left E) (opening : HouseAndHistory) (before last next behind : Standing)
@@ -115,3 +116,4 @@ read_at opening left.Nothing coming left_over before behind k h turns = turns
 read_at opening left.Unread coming left_over before behind k h turns = turns
 read_at opening left.Untaken coming left_over before behind k h turns = absurd h
 read_at opening left.Late coming left_over before behind k h turns = absurd h
+read_at opening left.Spent coming left_over before behind k h turns = absurd h

@@ -1,4 +1,5 @@
 pub mod Accepting
+pub mod Steady
 pub mod Serving
 pub mod Standing
 pub mod Asking

@@ -98,10 +98,12 @@ IsOfRead left.Unread = Unit {0}
 IsOfRead _ = ⊥
 
 -- what a turn does behind the last message that it takes: where all that have come whole are taken,
--- one Tick. Otherwise it does nothing more: too much waits to be sent, or the firm is late
+-- one Tick. Otherwise it does nothing more: too much waits to be sent, the firm is late, or the
+-- turn's span is over
 abbrev pub Rests : Left → Standing → Standing → Type 0
 Rests left.Untaken before behind = (most_waiting < length before.out) × (behind ≡ before)
 Rests left.Late before behind = behind ≡ before
+Rests left.Spent before behind = behind ≡ before
 Rests _ before behind = NextAnswers before.feed None × Ticks before behind
 
 -- the messages that have come whole are taken, or those before the one at which the turn rests
@@ -144,6 +146,8 @@ TakesOrIdles opening before behind l =
 abbrev pub Turns : HouseAndHistory → Left → Option (List ℕ) → Option (List ℕ) → Standing → Standing
     → Left → Type 0
 Turns opening left.Untaken coming left_over before behind l =
+    (left_over ≡ coming) × TakesAll opening before behind l
+Turns opening left.Spent coming left_over before behind l =
     (left_over ≡ coming) × TakesAll opening before behind l
 Turns opening left.Late coming left_over before behind l =
     (left_over ≡ coming)

@@ -20,7 +20,10 @@ ghost use Rattle.gu_connection.specs.LoggingOut.{logout_of, LogsOut};
 ghost use Rattle.gu_limits.specs.Admission.{most_text};
 ghost use Rattle.gu_session.specs.Steps.{time_of};
 
+use crate::look::Look;
+use crate::steady::SteadyClock;
 use gu_base::{Answer, FirmId, Memory, Report};
+use gu_board::Pace;
 use gu_codec::{Feed, Frame, Header, append_field, tags, write_frame};
 use gu_message::{SendingTime, msg_types};
 use gu_parties::House;
@@ -49,14 +52,19 @@ pub(crate) enum Brought {
     Message(Actions),
 }
 
-/// One step of a session, now. A clock that can't be read or stands before 1970 closes the
-/// connection, as want of memory does.
-fn step<R: Clock>(rt: &R, session: &mut Session<'_>, event: Event<'_>) -> Result<Actions, Closed>
+/// One step of a session, at its clock's moment. A clock that can't be told closes the connection,
+/// as want of memory does.
+fn step<R: Clock>(
+    rt: &R,
+    clock: &mut SteadyClock,
+    session: &mut Session<'_>,
+    event: Event<'_>,
+) -> Result<Actions, Closed>
     requires { ShowFewParts event }
     ensures ok { IfOk result (λ a. StepsNow event.entry session.old session.new a) }
     ensures err { OnErr result (session.new ≡ session.old) }
 {
-    let Ok(moment) = Timestamp::now(rt) else {
+    let Some(moment) = clock.now(rt) else {
         return Err(Closed);
     };
     match session.step(event, moment) {
@@ -109,6 +117,8 @@ fn last_number(reports: &[Report], before: u32) -> u32
 #[derive(Drop)]
 pub struct Connection<'a> {
     session: Session<'a>,
+    /// The clock by which the session goes.
+    clock: SteadyClock,
     feed: Feed,
     /// The number of the last report that was sent, 0 at first.
     told: u32,
@@ -119,11 +129,15 @@ pub struct Connection<'a> {
     behind: bool,
     /// What the turn sends, in one write at its end.
     out: Vec<u8>,
+    /// What the feed holds, where calls may have to wait.
+    look: Look,
+    /// What it has had of its firm's rate.
+    pace: Pace,
 }
 
 impl<'a> Connection<'a> {
-    /// A connection before its first turn.
-    pub fn new(alloc: Global, house: &'a House) -> Result<Connection<'a>, Closed>
+    /// A connection before its first turn, on which calls may have to wait or never do.
+    pub fn new(alloc: Global, house: &'a House, may_wait: bool) -> Result<Connection<'a>, Closed>
         ensures session { IfOk result (λ c. c.session ≡ opening house.now c.session.link.came) }
         ensures feed { IfOk result
             (λ c. (c.feed.held ≡ []) × (c.feed.passed ≡ 0) × (c.feed.broken ≡ None)) }
@@ -135,11 +149,14 @@ impl<'a> Connection<'a> {
         match Feed::new(alloc) {
             Ok(feed) => Ok(Connection {
                 session: Session::new(alloc, house),
+                clock: SteadyClock::new(),
                 feed,
                 told: 0,
                 looked: 0,
                 behind: false,
                 out: Vec::new(alloc),
+                look: Look::new(alloc, may_wait),
+                pace: Pace::new(),
             }),
             Err(_) => Err(Closed),
         }
@@ -153,7 +170,7 @@ impl<'a> Connection<'a> {
     }
 
     /// The entry up to which its readings have looked, 0 at first.
-    pub(crate) fn looked(&self) -> u32
+    pub fn looked(&self) -> u32
         ensures { result ≡ self.now.looked }
     {
         self.looked
@@ -165,6 +182,22 @@ impl<'a> Connection<'a> {
         ensures { result ≡ self.now.behind }
     {
         self.behind
+    }
+
+    /// Whether the wall clock has left its session's clock by more than that outlives.
+    pub(crate) fn has_stepped(&self) -> bool {
+        self.clock.has_stepped()
+    }
+
+    /// What it has had of its firm's rate.
+    pub fn pace(&self) -> &Pace {
+        &self.pace
+    }
+
+    /// Whether a call, or a request for resends, stands first of what has come whole, on a
+    /// connection where these may have to wait.
+    pub(crate) fn may_wait(&self) -> bool {
+        self.look.may_wait()
     }
 
     /// How many bytes the next read may bring.
@@ -184,6 +217,7 @@ impl<'a> Connection<'a> {
         ensures behind { self.new.behind ≡ self.old.behind }
         ensures out { self.new.out.items ≡ self.old.out.items }
     {
+        self.look.push(piece)?;
         match self.feed.push(piece) {
             Ok(()) => Ok(()),
             Err(_) => Err(Closed),
@@ -224,7 +258,7 @@ impl<'a> Connection<'a> {
         ensures looked { self.new.looked ≡ self.old.looked }
         ensures behind { self.new.behind ≡ self.old.behind }
     {
-        match step(rt, &mut self.session, event) {
+        match step(rt, &mut self.clock, &mut self.session, event) {
             Ok(actions) => self.send(&actions),
             Err(e) => Err(e),
         }
@@ -258,7 +292,7 @@ impl<'a> Connection<'a> {
         if number > LAST_NUMBER {
             return Closed;
         }
-        let Ok(moment) = Timestamp::now(rt) else {
+        let Some(moment) = self.clock.now(rt) else {
             return Closed;
         };
         let to = (house.house(), firm);
@@ -280,15 +314,24 @@ impl<'a> Connection<'a> {
         match self.feed.next() {
             None => Ok(Brought::Nothing),
             Some(Frame::Partial) => Ok(Brought::Nothing),
-            Some(Frame::Garbled { .. }) => Ok(Brought::Garbled),
-            Some(Frame::Whole { fields, .. }) => {
-                match step(rt, &mut self.session, Event::Message(fields)) {
+            Some(Frame::Garbled { len }) => {
+                self.look.pass(len);
+                Ok(Brought::Garbled)
+            }
+            Some(Frame::Whole { fields, len }) => {
+                self.look.pass(len);
+                match step(
+                    rt,
+                    &mut self.clock,
+                    &mut self.session,
+                    Event::Message(fields),
+                ) {
                     Ok(actions) => Ok(Brought::Message(actions)),
                     Err(e) => Err(e),
                 }
             }
             Some(Frame::Broken { .. }) => {
-                let _ = step(rt, &mut self.session, Event::End);
+                let _ = step(rt, &mut self.clock, &mut self.session, Event::End);
                 Err(Closed)
             }
         }

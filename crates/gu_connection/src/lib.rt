@@ -5,19 +5,27 @@
 //!   for what they call for, and puts what comes of them behind what the connection is to be sent.
 //! - A reading of reports begins at the entry up to which the connection's readings have looked,
 //!   and tells what one above the last report that was sent would tell.
+//! - A turn of `keep` ends after 64 messages, or where its span is over.
 //! - A connection that has no accepted Logon in time is ended, and a firm that is behind has its
 //!   next reports at once.
+//! - A session's timers go by a clock that doesn't jump. Where the wall clock has left it by more
+//!   than a minute the session ends.
 //! - What `serve` and `keep` begin with is here too, and which faults of accept they outlive.
 #![tactic(auto)]
 
 mod accepting;
 mod connection;
 mod lingering;
+mod look;
 mod opening;
+mod span;
+mod steady;
 mod worker;
 
 pub use accepting::{AfterFault, Faults, after_fault};
 pub use connection::{Closed, Connection};
 pub use lingering::LINGER_WAIT;
 pub use opening::{LOGON_WAIT, Open, listening, new_key, prepare};
+pub use span::Span;
+pub use steady::SteadyClock;
 pub use worker::{Left, WRITE_WAIT, Worker, expire};

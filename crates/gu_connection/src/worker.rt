@@ -4,8 +4,9 @@
 //! second for them, or a millisecond where the firm is behind with its reports. It takes the
 //! messages that have come whole through the session, and sends all that comes of them in one
 //! write. Where more than 64 kB wait to be sent it takes no further message: the next turn takes
-//! those before it reads. Only the book is asked under the desk's lock: reading, decoding and
-//! writing are done without it. A connection that has no accepted Logon in time is ended.
+//! those before it reads. A turn of `keep` has a span besides. Only the book is asked under the
+//! desk's lock: reading, decoding and writing are done without it. A connection that has no
+//! accepted Logon in time is ended.
 ghost use Rattle.std.specs.Prelude.{◌≡◌, ◌⊎◌, true, Some, is_some, IfOk, OnOk, OnErr};
 ghost use Rattle.gu_desk.specs.Begins.{BeginsWith};
 ghost use Rattle.gu_connection.specs.Asking.{Asks, Looks, AsksAtMost};
@@ -20,6 +21,8 @@ ghost use Rattle.gu_connection.specs.declared.worker.Left.TheVariants.{Nothing};
 
 use crate::connection::{Brought, Closed, Connection};
 use crate::lingering::linger;
+use crate::look::sent_again;
+use crate::span::{Span, is_over};
 use gu_base::{AllocId, Answer, Command, FirmId};
 use gu_board::Tallies;
 use gu_codec::MAX_FRAME_LEN;
@@ -38,6 +41,9 @@ const LONGEST_READ: usize = 4096;
 
 /// How many bytes may wait to be sent for a turn to take a further message.
 const MOST_WAITING: usize = 65_536;
+
+/// What the Logout of a session says whose clock the wall clock has left.
+const CLOCK_STEPPED: &str = "clock stepped";
 
 /// How long a read waits, in seconds.
 const READ_WAIT: u64 = 1;
@@ -102,8 +108,10 @@ pub enum Left {
     Unread,
     /// Perhaps messages that have come whole: too much waits to be sent.
     Untaken,
-    /// Perhaps messages that have come whole: the firm has made its calls of this second.
+    /// Perhaps messages that have come whole: the firm has had its rate.
     Late,
+    /// Perhaps messages that have come whole: the turn's span is over.
+    Spent,
 }
 
 /// What a read of so many bytes leaves, where it might have had that many.
@@ -189,7 +197,7 @@ impl<'a, J: Job, R: Wait + Clock, G: Gate> Worker<'a, J, R, G> {
         ensures err { OnErr result (IsLoggedOut self.now.house.now.house connection.old.session
             connection.old.out.items connection.new.out.items) }
     {
-        match self.tallies.begin_call(self.rt, firm) {
+        match self.tallies.begin_call(firm) {
             Ok(()) => Ok(()),
             Err(ending) => {
                 Err(connection.log_out(self.rt, self.alloc, self.house, ending.text()))
@@ -262,11 +270,30 @@ impl<'a, J: Job, R: Wait + Clock, G: Gate> Worker<'a, J, R, G> {
         }
     }
 
-    /// Whether the messages of a connection wait, since its firm has made its calls of this second.
+    /// Whether what stands first on a connection waits: it is a call or a request for resends, and
+    /// its firm has had its rate.
     fn is_late(&self, connection: &Connection<'_>) -> bool {
-        match connection.firm() {
-            Some(firm) => self.tallies.is_late(self.rt, &firm),
-            None => false,
+        let Some(firm) = connection.firm() else {
+            return false;
+        };
+        if !self.tallies.has_rate() {
+            return false;
+        }
+        let pace = connection.pace();
+        let late = self.tallies.is_late(self.rt, &firm, pace) && connection.may_wait();
+        self.tallies.note_waiting(&firm, pace, late);
+        late
+    }
+
+    /// Counts a message of a firm, and those that its step sends again.
+    fn count(&self, connection: &Connection<'_>, actions: &Actions) {
+        let Some(firm) = connection.firm() else {
+            return;
+        };
+        if self.tallies.has_rate() {
+            let count = sent_again(actions.send.as_slice()).saturating_add(1);
+            self.tallies
+                .count_messages(self.rt, &firm, connection.pace(), count);
         }
     }
 
@@ -286,6 +313,7 @@ impl<'a, J: Job, R: Wait + Clock, G: Gate> Worker<'a, J, R, G> {
             (stands result.0 connection.new)) }
         ensures later { BeginsWith result.0.seen seat.seen }
     {
+        self.count(connection, &actions);
         let Ok(()) = connection.send(&actions) else {
             return (seat, Err(Closed));
         };
@@ -327,7 +355,21 @@ impl<'a, J: Job, R: Wait + Clock, G: Gate> Worker<'a, J, R, G> {
         }
     }
 
-    /// The end of a turn that has taken all messages: a Tick. It leaves this.
+    /// Goes on where the wall clock has left the session's by no more than that outlives. Otherwise
+    /// a Logout says so.
+    fn keep_time(&self, connection: &mut Connection<'_>) -> Result<(), Closed>
+        ensures ok { OnOk result (connection.new ≡ connection.old) }
+        ensures err { OnErr result (IsLoggedOut self.now.house.now.house connection.old.session
+            connection.old.out.items connection.new.out.items) }
+    {
+        if connection.has_stepped() {
+            return Err(connection.log_out(self.rt, self.alloc, self.house, CLOCK_STEPPED));
+        }
+        Ok(())
+    }
+
+    /// The end of a turn that has taken all messages: a Tick. It leaves this. Where the wall clock
+    /// has left the session's by too much, a Logout says so.
     #[tactic(auto, using(crate::proofs::Seen::itself, crate::proofs::Seen::still))]
     fn tick(
         &self,
@@ -342,19 +384,23 @@ impl<'a, J: Job, R: Wait + Clock, G: Gate> Worker<'a, J, R, G> {
         ensures same { result.0 ≡ seat }
     {
         match connection.quiet(self.rt, Event::Tick) {
-            Ok(()) => (seat, Ok(left)),
+            Ok(()) => match self.keep_time(connection) {
+                Ok(()) => (seat, Ok(left)),
+                Err(e) => (seat, Err(e)),
+            },
             Err(e) => (seat, Err(e)),
         }
     }
 
     /// Takes the messages that have come whole, one after the other, and then a Tick; or those
-    /// before too much waits to be sent.
+    /// before too much waits to be sent, or the turn's span is over, where it has one.
     #[tactic(auto, using(crate::proofs::Seen::itself, crate::proofs::Seen::still))]
     fn messages(
         &self,
         seat: Seat<J>,
         connection: &mut Connection<'_>,
         left: Left,
+        span: Option<Span>,
     ) -> (Seat<J>, Result<Left, Closed>)
         requires { IsOfRead left }
         ensures takes { IfOk result.1 (λ l. TakesAll J.opening (stands seat connection.old)
@@ -365,12 +411,15 @@ impl<'a, J: Job, R: Wait + Clock, G: Gate> Worker<'a, J, R, G> {
     {
         let mut seat = seat;
         // A frame has a byte at least, so no feed holds more of them.
-        for _ in 0..MAX_FRAME_LEN {
+        for count in 0..MAX_FRAME_LEN {
             if connection.waiting() > MOST_WAITING {
                 return (seat, Ok(Left::Untaken));
             }
             if self.is_late(connection) {
                 return (seat, Ok(Left::Late));
+            }
+            if is_over(self.rt, span, count) {
+                return (seat, Ok(Left::Spent));
             }
             let (back, taken) = self.take(seat, connection);
             seat = back;
@@ -413,12 +462,13 @@ impl<'a, J: Job, R: Wait + Clock, G: Gate> Worker<'a, J, R, G> {
         }
     }
 
-    /// A turn behind one in which the firm had made its calls of a second.
+    /// A turn behind one in which the firm had had its rate.
     #[tactic(auto, using(crate::proofs::Seen::itself, crate::proofs::Seen::still))]
     fn late(
         &self,
         seat: Seat<J>,
         connection: &mut Connection<'_>,
+        span: Option<Span>,
     ) -> (Seat<J>, Result<Left, Closed>)
         ensures does { IfOk result.1 (λ l. TakesOrIdles J.opening (stands seat connection.old)
             (stands result.0 connection.new) l) }
@@ -429,7 +479,7 @@ impl<'a, J: Job, R: Wait + Clock, G: Gate> Worker<'a, J, R, G> {
         if self.is_late(connection) {
             self.idle(seat, connection, Left::Late)
         } else {
-            self.messages(seat, connection, Left::Unread)
+            self.messages(seat, connection, Left::Unread, span)
         }
     }
 
@@ -454,6 +504,7 @@ impl<'a, J: Job, R: Wait + Clock, G: Gate> Worker<'a, J, R, G> {
         connection: &mut Connection<'_>,
         piece: &[u8],
         left: Left,
+        span: Option<Span>,
     ) -> (Seat<J>, Result<Left, Closed>)
         requires { IsOfRead left }
         ensures takes { IfOk result.1 (λ l. TakesAll J.opening
@@ -464,7 +515,7 @@ impl<'a, J: Job, R: Wait + Clock, G: Gate> Worker<'a, J, R, G> {
     {
         self.tallies.note_read(self.number, piece.len());
         match connection.push(piece) {
-            Ok(()) => self.messages(seat, connection, left),
+            Ok(()) => self.messages(seat, connection, left, span),
             Err(e) => (seat, Err(e)),
         }
     }
@@ -500,6 +551,7 @@ impl<'a, J: Job, R: Wait + Clock, G: Gate> Worker<'a, J, R, G> {
         connection: &mut Connection<'_>,
         stream: &mut S,
         piece: &mut [u8],
+        span: Option<Span>,
     ) -> (Seat<J>, Result<Left, Closed>)
         ensures turns { IfOk result.1 (λ l. TurnsRead J.opening (S.remaining stream.old)
             (S.remaining stream.new) (stands seat connection.old)
@@ -513,12 +565,12 @@ impl<'a, J: Job, R: Wait + Clock, G: Gate> Worker<'a, J, R, G> {
         let room = &mut piece[..most];
         match stream.read(room) {
             Ok(0) => self.end(seat, connection),
-            Ok(n) => self.given(seat, connection, &room[..n], left_by(n, most)),
+            Ok(n) => self.given(seat, connection, &room[..n], left_by(n, most), span),
             Err(e) => self.unread(seat, connection, e.kind()),
         }
     }
 
-    /// One turn, without its write, behind one that left this.
+    /// One turn, without its write, behind one that left this, with this span, if it has one.
     #[tactic(auto, using(crate::proofs::Seen::itself, crate::proofs::Seen::still))]
     pub fn turn<S: Read>(
         &self,
@@ -527,6 +579,7 @@ impl<'a, J: Job, R: Wait + Clock, G: Gate> Worker<'a, J, R, G> {
         stream: &mut S,
         piece: &mut [u8],
         left: Left,
+        span: Option<Span>,
     ) -> (Seat<J>, Result<Left, Closed>)
         ensures turns { IfOk result.1 (λ l. Turns J.opening left (S.remaining stream.old)
             (S.remaining stream.new) (stands seat connection.old)
@@ -536,13 +589,13 @@ impl<'a, J: Job, R: Wait + Clock, G: Gate> Worker<'a, J, R, G> {
             (stands result.0 connection.new)) }
         ensures later { BeginsWith result.0.seen seat.seen }
     {
-        if left == Left::Untaken {
-            return self.messages(seat, connection, Left::Unread);
+        if left == Left::Untaken || left == Left::Spent {
+            return self.messages(seat, connection, Left::Unread, span);
         }
         if left == Left::Late {
-            return self.late(seat, connection);
+            return self.late(seat, connection, span);
         }
-        self.read_on(seat, connection, stream, piece)
+        self.read_on(seat, connection, stream, piece, span)
     }
 
     /// One turn with its write, behind one that left this. `Err` where the connection is to be
@@ -568,7 +621,7 @@ impl<'a, J: Job, R: Wait + Clock, G: Gate> Worker<'a, J, R, G> {
             })) }
         ensures later { BeginsWith result.0.seen seat.seen }
     {
-        let (seat, turned) = self.turn(seat, connection, reader, piece, left);
+        let (seat, turned) = self.turn(seat, connection, reader, piece, left, None);
         match connection.write(writer) {
             Ok(()) => (seat, turned),
             Err(e) => (seat, Err(e)),
@@ -622,7 +675,7 @@ impl<'a, J: Job, R: Wait + Clock, G: Gate> Worker<'a, J, R, G> {
         let Ok(taken) = Instant::now(self.rt) else {
             return Err(Closed);
         };
-        match Connection::new(self.alloc, self.house) {
+        match Connection::new(self.alloc, self.house, false) {
             Ok(connection) => Ok((connection, taken)),
             Err(e) => Err(e),
         }

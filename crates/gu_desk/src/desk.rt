@@ -23,6 +23,7 @@ use crate::ticket::Ticket;
 use crate::till::Till;
 use gu_base::{AllocId, Answer, Command, Entry, FirmId, Memory, Report};
 use gu_book::Book;
+use gu_trace::News;
 use std::alloc::{AllocError, Global};
 use std::marker::Model;
 use std::sync::ledger::Share;
@@ -273,6 +274,21 @@ impl<J: Job> Desk<J> {
         ensures once { NoIdTwice journal.new.seen }
     {
         self.till.lock(rt).copy_above(alloc, journal)
+    }
+
+    /// The firms that each entry above a number concerns, some of them maybe twice, read under the
+    /// lock, for which it may wait.
+    ///
+    /// # Errors
+    ///
+    /// `Memory` where a growth was refused.
+    pub fn news_above<R: Wait>(
+        &self,
+        rt: &R,
+        alloc: Global,
+        above: u32,
+    ) -> Result<Vec<News>, Memory> {
+        self.till.lock(rt).news_above(alloc, above)
     }
 
     /// Tells all seats and tickets that what the journal's seat has seen is durable, by this

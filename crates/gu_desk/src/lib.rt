@@ -29,10 +29,11 @@
 //! - `Desk::settle` and `Ticket::settle` are one load each, without the lock: where as many entries
 //!   are durable as a seat or a ticket has seen, what is durable begins with all that it has seen.
 //!   That is the receipt. A `Ticket` is a pass that is split off a seat, for bytes that wait.
+//! - `Desk::news_above` tells whom new entries concern.
 //! - `Desk::close` gives the book back against all seats: its history is as long as the opening one
 //!   and the sum of the shares, and begins with what each seat has seen.
-//! - `Desk::call`, `Desk::read_reports` and `Desk::copy_above` may wait for the lock; nothing else
-//!   here waits.
+//! - `Desk::call`, `read_reports`, `copy_above` and `news_above` may wait for the lock; nothing
+//!   else here waits.
 //! - Its cases stand in the program `test_book`.
 #![tactic(auto)]
 
@@ -50,6 +51,7 @@ mod till;
 pub use desk::{CloseError, Desk};
 pub use gate::Gate;
 pub use ground::Ground;
+pub use gu_trace::News;
 pub use journal::JournalSeat;
 pub use keeps::Keeps;
 pub use seat::{Job, Seat};

@@ -17,7 +17,7 @@ use crate::journal::JournalSeat;
 use crate::seat::{Job, Seat};
 use gu_base::{AllocId, Answer, Command, Entry, FirmId, Memory, Report};
 use gu_book::Book;
-use gu_trace::ConcernIndex;
+use gu_trace::{ConcernIndex, News, news_above};
 use std::alloc::Global;
 use std::marker::Model;
 use std::sync::ledger;
@@ -169,6 +169,16 @@ impl<J: Job> Till<J> {
         let told = self.index.reports_by(alloc, &self.book, firm, after);
         let seat = Seat::new(share, &self.count, &mut self.pass);
         (seat, told)
+    }
+
+    /// The firms that each entry above a number concerns, some of them maybe twice.
+    ///
+    /// # Errors
+    ///
+    /// `Memory` where a growth was refused.
+    pub fn news_above(&self, alloc: Global, above: u32) -> Result<Vec<News>, Memory> {
+        let book = &self.book;
+        news_above(alloc, &book.house().house(), book.history(), above)
     }
 
     /// Copies of the entries above those that are durable, for the journal's seat, which has then

@@ -46,6 +46,14 @@ fn refused(rt: &HostRuntime, path: &str, error: io::Error) -> OpenError {
     }
 }
 
+/// Whether something else than a regular file stands at a path: what would wait for a peer, say.
+fn is_no_file(rt: &HostRuntime, path: &str) -> bool {
+    match fs::metadata(rt, path) {
+        Ok(found) => !found.is_file(),
+        Err(_) => false,
+    }
+}
+
 /// Takes away the empty file that was made for a database's log beside a file.
 fn remove_log<S: Start>(rt: &HostRuntime, path: &str, log: FileFrom<S>) -> io::Result<()>
     requires { IsTrue (file_is_usable S.Start log) }
@@ -71,6 +79,9 @@ pub fn open_file<S: Start>(rt: &HostRuntime, path: &str, start: S) -> Result<Fil
     ensures durable { IfOk result (λ file. Only (⟦<FileFrom<S> as Disk>⟧.seen file)
         (⟦<FileFrom<S> as Disk>⟧.may_leave file)) }
 {
+    if is_no_file(rt, path) {
+        return Err(OpenError::NoFile);
+    }
     match open(rt, path, start) {
         Ok(Files { db, log }) => {
             let _ = remove_log(rt, path, log);

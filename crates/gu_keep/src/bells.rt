@@ -1,5 +1,6 @@
 //! How the threads of a server wake each other.
 
+use crate::news::NewsBoard;
 use crate::words::Words;
 use mio::Waker;
 use std::sync::atomic::{AtomicBool, AtomicU64, Ordering};
@@ -8,8 +9,12 @@ use std::sync::atomic::{AtomicBool, AtomicU64, Ordering};
 #[derive(Drop)]
 pub(crate) struct Bell {
     pub(crate) waker: Waker,
+    /// Its place among the bells.
+    pub(crate) at: u32,
     /// Whether it waits until more is kept.
     pub(crate) waits: AtomicBool,
+    /// Whether what is kept now concerns firms of its connections.
+    pub(crate) news: AtomicBool,
     /// How many connections it has.
     pub(crate) open: AtomicU64,
     /// Whether descriptors lack, so that it is to close connections without a Logon.
@@ -24,14 +29,17 @@ pub(crate) struct Bells {
     /// Whether the server is to end at once.
     pub(crate) stop: AtomicBool,
     pub(crate) words: Words,
+    pub(crate) news: NewsBoard,
 }
 
 impl Bell {
-    /// The bell of a worker that this wakes, with no connections yet.
-    pub(crate) fn new(waker: Waker) -> Bell {
+    /// The bell at this place, of a worker that this wakes, with no connections yet.
+    pub(crate) fn new(waker: Waker, at: u32) -> Bell {
         Bell {
             waker,
+            at,
             waits: AtomicBool::new(false),
+            news: AtomicBool::new(false),
             open: AtomicU64::new(0),
             lacks: AtomicBool::new(false),
         }

@@ -6,37 +6,48 @@ ghost use Rattle.gu_keep.specs.Sending.{Turns};
 ghost use Rattle.gu_recorder.specs.Waiting.{Holds, Sends};
 
 use crate::lingering::read_away;
+use crate::shares::place_of;
+use crate::stranger::Stranger;
 use crate::visit::Visit;
 use gu_base::FirmId;
 use gu_board::Tallies;
-use gu_connection::{Closed, Connection, Left, WRITE_WAIT, Worker, expire};
+use gu_connection::{Closed, Connection, LINGER_WAIT, Left, Span, WRITE_WAIT, Worker, expire};
 use gu_desk::{Gate, Job, Seat};
 use gu_limits::{Ending, is_silent};
-use gu_recorder::{Outbox, Rest};
-use std::net::TcpStream;
+use gu_recorder::{Outbox, Rest, Wire};
 use std::sync::Wait;
 use std::time::{Clock, Instant};
 
 /// How many bytes may wait for a firm to read them: a connection for which more wait has no turn.
 const MOST_UNREAD: usize = 1 << 20;
 
+/// After how many milliseconds without a turn it has one for what is new.
+const REST: u64 = 2;
+
 /// A connection, what it is to be sent, and how it stands.
 #[derive(Drop)]
 pub(crate) struct Client<'a, J: Job> {
-    pub(crate) stream: TcpStream,
+    pub(crate) wire: Wire,
     connection: Connection<'a>,
     outbox: Outbox<J>,
     taken: Instant,
     left: Left,
     /// Whether it is closed once all is sent.
     ended: bool,
-    /// Whether the peer took nothing when it was last written to.
+    /// Whether the peer took nothing when it was last written to, and whether it ever did so.
     full: bool,
+    slow: bool,
     /// Whether the peer sends no more: what it has sent is read to its end.
     shut: bool,
     /// The second in which it last had a turn, and that in which the peer last took something.
     turned: u64,
     took: u64,
+    /// The millisecond of its last turn.
+    rested_from: u64,
+    /// The place of its firm, once one has logged on, and the entry up to which it is to look at
+    /// the least.
+    pub(crate) place: Option<usize>,
+    wanted: u32,
     /// Whether a write was tried since the worker last paused.
     tried: bool,
     /// The second in which the peer last sent something, and whether it has since.
@@ -44,51 +55,67 @@ pub(crate) struct Client<'a, J: Job> {
     speaks: bool,
     /// The firm for whose connection it counts.
     counted: Option<FirmId>,
+    /// The place of its firm in the house file, once it has logged on.
+    share: Option<usize>,
+    /// Whether it has given its place among its firm's connections back, since its peer is gone.
+    gave_back: bool,
+    /// Whether it stands among those on which calls wait.
+    waits: bool,
     /// Whether no firm has logged on.
     unnamed: bool,
     /// Whether it stands among those that have something to be sent, and among those that have a
     /// turn without being asked.
     sends: bool,
     pub(crate) hurries: bool,
+    /// Whether it stands among those that have a turn once they have rested.
+    pub(crate) rests: bool,
     /// What an operator is told of it.
     pub(crate) visit: Visit,
 }
 
-/// A connection before its first turn.
-pub(crate) fn open_client<'a, J: Job, R: Clock, G>(
+/// The connection of a stranger before its first turn.
+pub(crate) fn open_client<'a, J: Job, R, G>(
     worker: &Worker<'a, J, R, G>,
     seat: &mut Seat<J>,
-    stream: TcpStream,
+    stranger: Stranger,
     second: u64,
 ) -> Result<Client<'a, J>, Closed>
     ensures { IfOk result (λ c. c.outbox ≡ record { sent = []; waits = [] }) }
 {
-    if stream.set_nodelay(true).is_err() || stream.set_nonblocking(true).is_err() {
-        return Err(Closed);
-    }
-    let Ok(taken) = Instant::now(worker.rt) else {
-        return Err(Closed);
-    };
-    let connection = Connection::new(worker.alloc, worker.house)?;
-    let visit = Visit::new(worker.alloc, worker.tallies.board(), &stream, second);
+    let connection = Connection::new(worker.alloc, worker.house, worker.tallies.has_rate())?;
+    let Stranger {
+        wire,
+        taken,
+        speaks,
+        shut,
+        visit,
+    } = stranger;
     Ok(Client {
-        stream,
+        wire,
         connection,
         outbox: Outbox::new(worker.alloc, worker.desk, seat),
         taken,
-        left: Left::Nothing,
+        left: Left::Unread,
         ended: false,
         full: false,
-        shut: false,
+        slow: false,
+        shut,
         turned: second,
         took: second,
+        rested_from: 0,
+        place: None,
+        wanted: 0,
         tried: false,
         heard: second,
-        speaks: false,
+        speaks,
         counted: None,
+        share: None,
+        gave_back: false,
+        waits: false,
         unnamed: true,
         sends: false,
         hurries: false,
+        rests: false,
         visit,
     })
 }
@@ -126,7 +153,46 @@ impl<'a, J: Job> Client<'a, J> {
     /// Whether it is to have a turn without being asked.
     pub(crate) fn is_due(&self) -> bool {
         let unread = self.left == Left::Unread || self.left == Left::Untaken;
+        let unread = unread || self.left == Left::Spent;
         self.may_turn() && (unread || self.connection.behind())
+    }
+
+    /// Notes that it has had a turn in this millisecond.
+    pub(crate) fn note_turn(&mut self, millis: u64)
+        ensures { self.new.outbox ≡ self.old.outbox }
+    {
+        self.rested_from = millis;
+    }
+
+    /// Notes that an entry of this number is kept and concerns its firm.
+    pub(crate) fn want(&mut self, number: u32)
+        ensures { self.new.outbox ≡ self.old.outbox }
+    {
+        self.wanted = self.wanted.max(number);
+    }
+
+    /// Whether it is to have a turn for what is new.
+    pub(crate) fn lacks(&self) -> bool {
+        self.may_turn() && self.connection.looked() < self.wanted
+    }
+
+    /// Whether it has had no turn for a while.
+    pub(crate) fn has_rested(&self, millis: u64) -> bool {
+        millis >= self.rested_from.saturating_add(REST)
+    }
+
+    /// The place of its firm in the house file.
+    pub(crate) fn share(&self) -> Option<usize> {
+        self.share
+    }
+
+    /// Notes that it waits for the next round, as its firm has had its time: whether that is news.
+    pub(crate) fn is_passed_over(&mut self) -> bool
+        ensures { self.new.outbox ≡ self.old.outbox }
+    {
+        let is_news = !self.hurries;
+        self.hurries = true;
+        is_news
     }
 
     /// Whether no firm has logged on.
@@ -147,10 +213,42 @@ impl<'a, J: Job> Client<'a, J> {
     pub(crate) fn leave(&mut self, tallies: &Tallies)
         ensures { self.new.outbox ≡ self.old.outbox }
     {
+        self.let_go(tallies);
         if let Some(firm) = self.counted {
             tallies.leave(&firm);
             self.counted = None;
         }
+    }
+
+    /// Ends its count as a connection of its firm, where the peer sends no more, whatever it has
+    /// left unread.
+    fn give_back(&mut self, tallies: &Tallies)
+        ensures { self.new.outbox ≡ self.old.outbox }
+    {
+        if !self.shut {
+            return;
+        }
+        if let Some(firm) = self.counted {
+            tallies.leave(&firm);
+            self.counted = None;
+            self.gave_back = true;
+        }
+    }
+
+    /// Whether it is to be listed among those on which calls wait. Where it is, it notes so.
+    pub(crate) fn waits_anew(&mut self) -> bool
+        ensures { self.new.outbox ≡ self.old.outbox }
+    {
+        let waits = !self.waits && !self.ended && self.left == Left::Late;
+        self.waits = self.waits || waits;
+        waits
+    }
+
+    /// Notes that it stands among those no more.
+    pub(crate) fn waits_no_more(&mut self)
+        ensures { self.new.outbox ≡ self.old.outbox }
+    {
+        self.waits = false;
     }
 
     /// Whether it is to be listed among those that have something to be sent, and among those that
@@ -175,10 +273,20 @@ impl<'a, J: Job> Client<'a, J> {
         self.is_over() && self.connection.firm().is_some()
     }
 
+    /// For how many seconds it lingers: longer for a peer that takes slowly.
+    pub(crate) fn linger_wait(&self) -> u64 {
+        if self.slow { WRITE_WAIT } else { LINGER_WAIT }
+    }
+
+    /// How many messages it wasn't sent, or not to their end.
+    pub(crate) fn messages_left(&self) -> u64 {
+        self.outbox.messages()
+    }
+
     /// Its stream alone.
-    pub(crate) fn into_stream(self) -> TcpStream {
-        let Client { stream, .. } = self;
-        stream
+    pub(crate) fn into_wire(self) -> Wire {
+        let Client { wire, .. } = self;
+        wire
     }
 
     /// Puts what the turn has made into the outbox, made of what the seat has seen. Where memory
@@ -204,12 +312,21 @@ impl<'a, J: Job> Client<'a, J> {
         }
     }
 
-    /// Notes why it has ended, if it has: what the last message says that the turn sends.
-    fn note_end(&mut self)
+    /// Notes why it has ended, if it has: what the last message says that the turn sends. No calls
+    /// wait on it then.
+    fn note_end(&mut self, tallies: &Tallies)
         ensures { self.new.outbox ≡ self.old.outbox }
     {
         if self.ended {
             self.visit.note_end(self.connection.made());
+            self.let_go(tallies);
+        }
+    }
+
+    /// Notes that no calls wait on it.
+    fn let_go(&self, tallies: &Tallies) {
+        if let Some(firm) = self.connection.firm() {
+            tallies.note_waiting(&firm, self.connection.pace(), false);
         }
     }
 
@@ -228,9 +345,10 @@ impl<'a, J: Job> Client<'a, J> {
     fn enters<R, G>(&mut self, worker: &Worker<'a, J, R, G>, firm: &FirmId) -> bool
         ensures { self.new.outbox ≡ self.old.outbox }
     {
-        if self.counted.is_some() {
+        if self.counted.is_some() || self.gave_back {
             return true;
         }
+        self.share = place_of(worker.house, firm);
         if worker.tallies.enter(firm) {
             self.counted = Some(*firm);
             return true;
@@ -279,7 +397,7 @@ impl<'a, J: Job> Client<'a, J> {
         }
     }
 
-    /// A turn, if it may have one. Where it has ended, what has come is thrown away.
+    /// A turn with this span, if it may have one. Where it has ended, what has come is thrown away.
     #[tactic(auto, using(gu_connection::proofs::Seen::itself, gu_connection::proofs::Seen::still))]
     pub(crate) fn turn<R: Wait + Clock, G: Gate>(
         &mut self,
@@ -287,19 +405,27 @@ impl<'a, J: Job> Client<'a, J> {
         seat: Seat<J>,
         piece: &mut [u8],
         second: u64,
+        span: Span,
     ) -> Seat<J>
         ensures later { BeginsWith result.seen seat.seen }
         ensures turns { Turns self.old.outbox self.new.outbox result.seen }
     {
+        self.give_back(worker.tallies);
         if !self.may_turn() {
             if self.ended {
-                let _ = read_away(&self.stream);
+                let _ = read_away(&mut self.wire);
             }
             return seat;
         }
         self.begin_turn(second);
-        let mut stream: &TcpStream = &self.stream;
-        let (seat, turned) = worker.turn(seat, &mut self.connection, &mut stream, piece, self.left);
+        let (seat, turned) = worker.turn(
+            seat,
+            &mut self.connection,
+            &mut self.wire,
+            piece,
+            self.left,
+            Some(span),
+        );
         match turned {
             Ok(left) => {
                 self.left = self.left_by(left);
@@ -307,7 +433,7 @@ impl<'a, J: Job> Client<'a, J> {
             }
             Err(_) => self.ended = true,
         }
-        self.note_end();
+        self.note_end(worker.tallies);
         let mut seat = seat;
         self.hold(worker, &mut seat, second);
         seat
@@ -327,11 +453,12 @@ impl<'a, J: Job> Client<'a, J> {
         }
         self.tried = true;
         let before = self.outbox.len();
-        let rest = self.outbox.send(worker.desk, &self.stream)?;
+        let rest = self.outbox.send(worker.desk, &self.wire)?;
         if self.outbox.len() < before || rest == Rest::Unkept {
             self.took = second;
         }
         self.full = rest == Rest::Untaken;
+        self.slow = self.slow || self.full;
         if self.is_over() {
             return Err(Closed);
         }

@@ -2,12 +2,16 @@
 
 use crate::client::Client;
 use crate::lingering::{Lingering, MOST_LINGERING};
+use crate::news::NewsBoard;
+use crate::shares::Shares;
+use crate::stranger::Stranger;
 use gu_connection::Closed;
 use gu_desk::Job;
+use gu_parties::House;
+use gu_recorder::Wire;
 use std::alloc::Global;
 use std::collections::VecDeque;
 use std::mem::{replace, swap};
-use std::net::TcpStream;
 
 /// For how many seconds no second begins at the most, unless the worker has paused.
 const MOST_ROUND: u64 = 2;
@@ -16,6 +20,8 @@ const MOST_ROUND: u64 = 2;
 #[derive(Drop)]
 pub(crate) struct Clients<'a, J: Job> {
     pub(crate) places: Vec<Option<Client<'a, J>>>,
+    /// Those of the places where nothing has come yet.
+    strangers: Vec<Option<Stranger>>,
     free: Vec<usize>,
     open: usize,
     /// The places of those without a Logon, in the order in which they came.
@@ -26,25 +32,55 @@ pub(crate) struct Clients<'a, J: Job> {
     pub(crate) to_send: Vec<usize>,
     /// The places of those that have a turn without being asked.
     pub(crate) hurried: Vec<usize>,
+    /// The places of those that have a turn once they have rested.
+    resting: VecDeque<usize>,
+    /// The places of those that had no turn in this round, since their firm had had its time. They
+    /// come first in the next one.
+    passed_over: Vec<usize>,
+    /// The places of those on which calls wait.
+    late: Vec<usize>,
+    /// What each firm has had in this round.
+    pub(crate) shares: Shares,
     /// The streams of those that have ended, in the order in which they did.
     lingering: VecDeque<Lingering>,
     /// The second that began last.
     second: u64,
+    /// The millisecond of the round.
+    millis: u64,
+    /// What is new of each firm, the worker that these are of, and how many of them each firm has,
+    /// by its place.
+    news: &'a NewsBoard,
+    worker: u32,
+    of_firms: Vec<u32>,
 }
 
 impl<'a, J: Job> Clients<'a, J> {
     /// No connections yet.
-    pub(crate) fn new(alloc: Global) -> Clients<'a, J> {
+    pub(crate) fn new(
+        alloc: Global,
+        house: &House,
+        news: &'a NewsBoard,
+        worker: u32,
+    ) -> Clients<'a, J> {
         Clients {
             places: Vec::new(alloc),
+            strangers: Vec::new(alloc),
             free: Vec::new(alloc),
             open: 0,
             unnamed: VecDeque::new(alloc),
             sending: Vec::new(alloc),
             to_send: Vec::new(alloc),
             hurried: Vec::new(alloc),
+            resting: VecDeque::new(alloc),
+            passed_over: Vec::new(alloc),
+            late: Vec::new(alloc),
+            shares: Shares::new(alloc, house),
             lingering: VecDeque::new(alloc),
             second: 0,
+            millis: 0,
+            news,
+            worker,
+            of_firms: Vec::new(alloc),
         }
     }
 
@@ -67,6 +103,9 @@ impl<'a, J: Job> Clients<'a, J> {
         self.sending.reserve(most).is_ok()
             && self.to_send.reserve(most).is_ok()
             && self.hurried.reserve(most).is_ok()
+            && self.resting.reserve(most).is_ok()
+            && self.passed_over.reserve(most).is_ok()
+            && self.late.reserve(most).is_ok()
             && self.free.reserve(most).is_ok()
             && self.unnamed.reserve(most).is_ok()
     }
@@ -79,11 +118,12 @@ impl<'a, J: Job> Clients<'a, J> {
         if let Some(at) = self.free.pop() {
             return Ok(at);
         }
-        if self.places.reserve(1).is_err() {
+        if self.places.reserve(1).is_err() || self.strangers.reserve(1).is_err() {
             return Err(Closed);
         }
         let at = self.places.len();
         self.places.push_reserved(None);
+        self.strangers.push_reserved(None);
         Ok(at)
     }
 
@@ -95,20 +135,51 @@ impl<'a, J: Job> Clients<'a, J> {
         }
     }
 
-    /// Takes a connection in, and tells its place.
-    pub(crate) fn add(&mut self, client: Client<'a, J>) -> Result<usize, Closed> {
-        match self.free_place() {
-            Ok(at) => {
-                drop(self.put(at, Some(client)));
-                self.open = self.open.saturating_add(1);
-                let _ = self.unnamed.push_back(at);
-                Ok(at)
-            }
-            Err(closed) => {
-                drop(client);
-                Err(closed)
-            }
+    /// Takes a stranger in, and tells its place.
+    pub(crate) fn add(&mut self, stranger: Stranger) -> Result<usize, Closed> {
+        let at = self.free_place()?;
+        if let Some(place) = self.strangers.get_mut(at) {
+            *place = Some(stranger);
         }
+        self.open = self.open.saturating_add(1);
+        let _ = self.unnamed.push_back(at);
+        Ok(at)
+    }
+
+    /// The stranger at a place.
+    pub(crate) fn stranger_at(&self, at: usize) -> Option<&Stranger> {
+        match self.strangers.get(at) {
+            Some(Some(stranger)) => Some(stranger),
+            _ => None,
+        }
+    }
+
+    /// Notes what the poll says of the stranger at a place: whether it is no stranger any more.
+    pub(crate) fn note_stranger(&mut self, at: usize, readable: bool, shut: bool) -> bool {
+        match self.strangers.get_mut(at) {
+            Some(Some(stranger)) => stranger.note(readable, shut),
+            _ => false,
+        }
+    }
+
+    /// Takes the stranger at a place out of it.
+    pub(crate) fn take_stranger(&mut self, at: usize) -> Option<Stranger> {
+        match self.strangers.get_mut(at) {
+            Some(place) => replace(place, None),
+            None => None,
+        }
+    }
+
+    /// Has a connection stand where its stranger stood.
+    pub(crate) fn know(&mut self, at: usize, client: Client<'a, J>) {
+        drop(self.put(at, Some(client)));
+    }
+
+    /// Frees the place of a stranger that is gone.
+    pub(crate) fn free_stranger(&mut self, at: usize) {
+        self.forget(at);
+        self.open = self.open.saturating_sub(1);
+        let _ = self.free.push(at);
     }
 
     /// Puts the connection at a place into the lists that it belongs in and isn't in.
@@ -122,6 +193,63 @@ impl<'a, J: Job> Clients<'a, J> {
         }
         if hurries {
             let _ = self.hurried.push(at);
+        }
+        if client.waits_anew() {
+            let _ = self.late.push(at);
+        }
+    }
+
+    /// Whether one is to have a turn without being asked.
+    pub(crate) fn is_hurried(&self) -> bool {
+        !self.hurried.is_empty() || !self.passed_over.is_empty()
+    }
+
+    /// How many there are of those.
+    pub(crate) fn hurried_count(&self) -> usize {
+        self.hurried.len().saturating_add(self.passed_over.len())
+    }
+
+    /// Takes the next of them out of its list: those that had a turn before those that had none, as
+    /// who comes last has the first turn.
+    pub(crate) fn next_hurried(&mut self) -> Option<usize> {
+        match self.hurried.pop() {
+            Some(at) => Some(at),
+            None => self.passed_over.pop(),
+        }
+    }
+
+    /// Whether calls wait on one of them.
+    pub(crate) fn has_late(&self) -> bool {
+        !self.late.is_empty()
+    }
+
+    /// Has those on which calls wait be asked again: their places go behind these.
+    pub(crate) fn ask_late(&mut self, ready: &mut Vec<usize>) {
+        for _ in 0..self.late.len() {
+            let Some(at) = self.late.pop() else {
+                return;
+            };
+            if let Some(Some(client)) = self.places.get_mut(at) {
+                client.waits_no_more();
+                let _ = ready.push(at);
+            }
+        }
+    }
+
+    /// How many microseconds the one at a place has for its turn.
+    pub(crate) fn time_of(&self, at: usize) -> u64 {
+        match self.at(at) {
+            Some(client) => self.shares.left(client.share()),
+            None => 0,
+        }
+    }
+
+    /// Has the one at a place wait for the next round, since its firm has had its time.
+    pub(crate) fn pass_over(&mut self, at: usize) {
+        if let Some(Some(client)) = self.places.get_mut(at) {
+            if client.is_passed_over() {
+                let _ = self.passed_over.push(at);
+            }
         }
     }
 
@@ -149,14 +277,111 @@ impl<'a, J: Job> Clients<'a, J> {
     }
 
     /// Takes the one at a place out of those without a Logon, if it has logged on.
-    pub(crate) fn note_logon(&mut self, at: usize) {
+    fn note_logon(&mut self, at: usize) {
         let has_logged_on = match self.places.get_mut(at) {
             Some(Some(client)) => client.has_logged_on(),
             _ => false,
         };
         if has_logged_on {
             self.forget(at);
+            self.join(at);
         }
+    }
+
+    /// Counts the connection at a place for its firm, whose news it hears from now on.
+    fn join(&mut self, at: usize) {
+        let Some(Some(client)) = self.places.get_mut(at) else {
+            return;
+        };
+        let Some(firm) = client.firm() else {
+            return;
+        };
+        let Some(place) = self.news.place_of(&firm) else {
+            return;
+        };
+        while self.of_firms.len() <= place {
+            if self.of_firms.push(0).is_err() {
+                return;
+            }
+        }
+        client.place = Some(place);
+        if let Some(count) = self.of_firms.get_mut(place) {
+            *count = count.saturating_add(1);
+        }
+        self.news.join(place, self.worker);
+        client.want(self.news.newest(place));
+    }
+
+    /// Counts a connection of the firm at a place less.
+    fn part(&mut self, place: usize) {
+        if let Some(count) = self.of_firms.get_mut(place) {
+            *count = count.saturating_sub(1);
+            if *count == 0 {
+                self.news.part(place, self.worker);
+            }
+        }
+    }
+
+    /// Has the connection at a place have a turn, if what is new concerns it: at once, or once it
+    /// has rested.
+    fn hurry_news(&mut self, at: usize) {
+        let Some(Some(client)) = self.places.get_mut(at) else {
+            return;
+        };
+        if !client.lacks() {
+            return;
+        }
+        if client.has_rested(self.millis) {
+            if !client.hurries {
+                client.hurries = true;
+                let _ = self.hurried.push(at);
+            }
+        } else if !client.rests {
+            client.rests = true;
+            let _ = self.resting.push_back(at);
+        }
+    }
+
+    /// Looks at what is new of each firm.
+    pub(crate) fn hear(&mut self) {
+        for at in 0..self.places.len() {
+            if let Some(Some(client)) = self.places.get_mut(at) {
+                if let Some(place) = client.place {
+                    client.want(self.news.newest(place));
+                }
+            }
+            self.hurry_news(at);
+        }
+    }
+
+    /// Begins a round in this millisecond: those that have rested have a turn, if they still lack
+    /// what is new.
+    pub(crate) fn begin_round(&mut self, millis: u64) {
+        self.millis = millis;
+        for _ in 0..self.resting.len() {
+            let Some(at) = self.resting.pop_front() else {
+                return;
+            };
+            if let Some(Some(client)) = self.places.get_mut(at) {
+                client.rests = false;
+            }
+            self.hurry_news(at);
+        }
+    }
+
+    /// Whether some have a turn once they have rested.
+    pub(crate) fn some_rest(&self) -> bool {
+        !self.resting.is_empty()
+    }
+
+    /// Behind a turn with the connection at a place: notes a Logon, and lists it where it belongs.
+    pub(crate) fn end_turn(&mut self, at: usize) {
+        if let Some(Some(client)) = self.places.get_mut(at) {
+            client.note_turn(self.millis);
+        }
+        self.note_logon(at);
+        self.list(at);
+        self.hurry_news(at);
     }
 
     /// Closes the lingering stream that ended first.
@@ -173,12 +398,13 @@ impl<'a, J: Job> Clients<'a, J> {
         }
     }
 
-    /// Has the stream of a connection that was at this place linger, unless its peer has ended.
-    fn linger(&mut self, at: usize, stream: TcpStream, second: u64) {
+    /// Has the stream of a connection that was at this place linger for so many seconds, unless its
+    /// peer has ended.
+    fn linger(&mut self, at: usize, wire: Wire, second: u64, wait: u64) {
         if self.lingering.len() >= MOST_LINGERING {
             self.close_oldest();
         }
-        let Some(lingering) = Lingering::new(at, stream, second) else {
+        let Some(lingering) = Lingering::new(at, wire, second, wait) else {
             let _ = self.free.push(at);
             return;
         };
@@ -191,7 +417,7 @@ impl<'a, J: Job> Clients<'a, J> {
     /// named.
     pub(crate) fn note_lingering(&mut self, place: Option<usize>, second: u64) {
         for _ in 0..self.lingering.len() {
-            let Some(it) = self.lingering.pop_front() else {
+            let Some(mut it) = self.lingering.pop_front() else {
                 return;
             };
             let at = it.at;
@@ -227,10 +453,14 @@ impl<'a, J: Job> Clients<'a, J> {
         if client.is_unnamed() {
             self.forget(at);
         }
+        if let Some(place) = client.place {
+            self.part(place);
+        }
         self.open = self.open.saturating_sub(1);
         // The system drops the descriptor from the poll when it is closed.
         if client.lingers() {
-            self.linger(at, client.into_stream(), second);
+            let wait = client.linger_wait();
+            self.linger(at, client.into_wire(), second, wait);
         } else {
             drop(client);
             let _ = self.free.push(at);

@@ -5,16 +5,16 @@
 use crate::bells::{Bell, Bells};
 use crate::client::{Client, open_client};
 use crate::clients::Clients;
+use crate::stranger::Stranger;
 use crossbeam_channel::{Receiver, TryRecvError};
 use gu_board::Work;
 use gu_command::KeepError;
-use gu_connection::{Closed, Worker};
+use gu_connection::{Closed, Span, Worker};
 use gu_desk::{Gate, Job, Seat, Ticket};
-use gu_recorder::{OpenJournal, Recorder};
+use gu_recorder::{OpenJournal, Recorder, Wire};
 use mio::unix::SourceFd;
 use mio::{Events, Interest, Poll, Token};
 use std::net::TcpStream;
-use std::os::fd::AsRawFd;
 use std::sync::atomic::Ordering;
 use std::sync::{Mutex, Wait};
 use std::time::{Clock, Duration, Instant};
@@ -34,7 +34,10 @@ const MOST_TAKEN: usize = 64;
 
 /// How many connections of a worker may be without a Logon. Where there are more, the one that came
 /// first is closed.
-const MOST_UNNAMED: usize = 256;
+const MOST_UNNAMED: usize = 2_048;
+
+/// After how many milliseconds those on which calls wait are asked again.
+const LATE_WAIT: u64 = 16;
 
 /// A worker, and what it has for its connections.
 #[derive(Drop)]
@@ -59,6 +62,8 @@ struct Round<J: Job> {
     /// it last had a tick.
     millis: u64,
     second: u64,
+    /// When those on which calls wait were last asked, in 16 milliseconds.
+    asked: u64,
     /// What the newest bytes that were made rest on.
     newest: Ticket<J>,
 }
@@ -71,6 +76,11 @@ fn note<J: Job>(events: &Events, clients: &mut Clients<'_, J>, round: &mut Round
         let at = event.token().0;
         if at == WOKEN {
             round.woken = true;
+        } else if clients.stranger_at(at).is_some() {
+            let readable = event.is_readable() || event.is_error();
+            if clients.note_stranger(at, readable, event.is_read_closed()) {
+                let _ = round.ready.push(at);
+            }
         } else if clients.at(at).is_none() {
             clients.note_lingering(Some(at), round.second);
         } else if let Some(Some(client)) = clients.places.get_mut(at) {
@@ -82,16 +92,21 @@ fn note<J: Job>(events: &Events, clients: &mut Clients<'_, J>, round: &mut Round
     }
 }
 
-/// Puts those that have a turn without being asked beside the ready ones.
+/// Puts those that have a turn without being asked beside the ready ones, and each 16 milliseconds
+/// those on which calls wait.
 fn hurry<J: Job>(clients: &mut Clients<'_, J>, round: &mut Round<J>) {
-    for _ in 0..clients.hurried.len() {
-        let Some(at) = clients.hurried.pop() else {
+    for _ in 0..clients.hurried_count() {
+        let Some(at) = clients.next_hurried() else {
             return;
         };
         if let Some(Some(client)) = clients.places.get_mut(at) {
             client.hurries = false;
             let _ = round.ready.push(at);
         }
+    }
+    if round.millis / LATE_WAIT != round.asked {
+        round.asked = round.millis / LATE_WAIT;
+        clients.ask_late(&mut round.ready);
     }
 }
 
@@ -104,9 +119,9 @@ fn ended_by<J: Job>(client: Option<&Client<'_, J>>) -> Option<&'static str> {
 }
 
 impl<'a, K: OpenJournal, J: Job, R: Wait + Clock, G: Gate> Keeper<'a, K, J, R, G> {
-    /// Registers a stream with the poll under this place.
-    fn watch(&self, poll: &Poll, stream: &TcpStream, at: usize) -> Result<(), Closed> {
-        let fd = stream.as_raw_fd();
+    /// Registers a connection with the poll under this place.
+    fn watch(&self, poll: &Poll, wire: &Wire, at: usize) -> Result<(), Closed> {
+        let fd = wire.as_raw_fd();
         match poll.registry().register(
             &mut SourceFd(&fd),
             Token(at),
@@ -118,16 +133,9 @@ impl<'a, K: OpenJournal, J: Job, R: Wait + Clock, G: Gate> Keeper<'a, K, J, R, G
     }
 
     /// Takes a connection in. One that can't be set up, or for which memory lacks, is dropped.
-    fn take(
-        &self,
-        poll: &Poll,
-        seat: &mut Seat<J>,
-        clients: &mut Clients<'a, J>,
-        stream: TcpStream,
-        second: u64,
-    ) {
-        let added = match open_client(&self.worker, seat, stream, second) {
-            Ok(client) => clients.add(client),
+    fn take(&self, poll: &Poll, clients: &mut Clients<'a, J>, stream: TcpStream, second: u64) {
+        let added = match Stranger::new(&self.worker, stream, second) {
+            Ok(stranger) => clients.add(stranger),
             Err(closed) => Err(closed),
         };
         let Ok(at) = added else {
@@ -137,9 +145,9 @@ impl<'a, K: OpenJournal, J: Job, R: Wait + Clock, G: Gate> Keeper<'a, K, J, R, G
         if let Some(board) = self.worker.tallies.board() {
             board.opens();
         }
-        let watched = match clients.at(at) {
-            Some(client) => self.watch(poll, &client.stream, at).is_ok(),
-            _ => false,
+        let watched = match clients.stranger_at(at) {
+            Some(stranger) => self.watch(poll, &stranger.wire, at).is_ok(),
+            None => false,
         };
         if !watched {
             self.close(clients, at, second, Some("not watched"));
@@ -168,16 +176,10 @@ impl<'a, K: OpenJournal, J: Job, R: Wait + Clock, G: Gate> Keeper<'a, K, J, R, G
     }
 
     /// Takes the connections that have come. False where no more will come.
-    fn take_all(
-        &self,
-        poll: &Poll,
-        seat: &mut Seat<J>,
-        clients: &mut Clients<'a, J>,
-        second: u64,
-    ) -> bool {
+    fn take_all(&self, poll: &Poll, clients: &mut Clients<'a, J>, second: u64) -> bool {
         for _ in 0..MOST_TAKEN {
             match self.streams.try_recv(self.worker.rt) {
-                Ok(stream) => self.take(poll, seat, clients, stream, second),
+                Ok(stream) => self.take(poll, clients, stream, second),
                 Err(TryRecvError::Empty) => return true,
                 Err(TryRecvError::Disconnected) => return false,
             }
@@ -194,13 +196,49 @@ impl<'a, K: OpenJournal, J: Job, R: Wait + Clock, G: Gate> Keeper<'a, K, J, R, G
         };
         let rt = self.worker.rt;
         match client.firm() {
-            Some(firm) => client.visit.say_end(rt, board, &firm, second, why),
+            Some(firm) => {
+                let left = client.messages_left();
+                client.visit.say_end(rt, board, &firm, second, why, left)
+            }
             None => client
                 .visit
                 .say_refusal(rt, board, self.worker.house, second),
         }
         board.waits(client.waiting(), 0);
         board.leaves();
+    }
+
+    /// Closes the stranger at a place: whether there was one.
+    fn close_stranger(&self, clients: &mut Clients<'a, J>, at: usize, second: u64) -> bool {
+        let Some(stranger) = clients.take_stranger(at) else {
+            return false;
+        };
+        if let Some(board) = self.worker.tallies.board() {
+            stranger
+                .visit
+                .say_refusal(self.worker.rt, board, self.worker.house, second);
+            board.leaves();
+        }
+        clients.free_stranger(at);
+        self.bell.open.fetch_sub(1, Ordering::SeqCst);
+        true
+    }
+
+    /// Opens the connection of the stranger at a place. One for which memory lacks is closed.
+    fn know(&self, seat: &mut Seat<J>, clients: &mut Clients<'a, J>, second: u64, at: usize) {
+        let Some(stranger) = clients.take_stranger(at) else {
+            return;
+        };
+        match open_client(&self.worker, seat, stranger, second) {
+            Ok(client) => clients.know(at, client),
+            Err(_) => {
+                if let Some(board) = self.worker.tallies.board() {
+                    board.leaves();
+                }
+                clients.free_stranger(at);
+                self.bell.open.fetch_sub(1, Ordering::SeqCst);
+            }
+        }
     }
 
     /// Closes the connection at a place, for this reason, if it doesn't know itself why.
@@ -211,6 +249,9 @@ impl<'a, K: OpenJournal, J: Job, R: Wait + Clock, G: Gate> Keeper<'a, K, J, R, G
         second: u64,
         why: Option<&'static str>,
     ) {
+        if self.close_stranger(clients, at, second) {
+            return;
+        }
         if let Some(Some(client)) = clients.places.get_mut(at) {
             client.leave(self.worker.tallies);
             self.say_end(client, second, why);
@@ -231,11 +272,13 @@ impl<'a, K: OpenJournal, J: Job, R: Wait + Clock, G: Gate> Keeper<'a, K, J, R, G
         }
     }
 
-    /// Counts what a turn has done, and says that a firm has logged on, if it has.
+    /// Counts what a turn has done, and says that a firm has logged on, if it has. The worker is
+    /// well.
     fn end_turn(&self, client: &mut Client<'a, J>, before: (Work, usize), piece: &[u8]) {
         let Some(board) = self.worker.tallies.board() else {
             return;
         };
+        board.turns(self.worker.number);
         client.visit.end(board, self.worker.number, before.0, piece);
         board.waits(before.1, client.waiting());
         if let Some(firm) = client.firm() {
@@ -243,7 +286,7 @@ impl<'a, K: OpenJournal, J: Job, R: Wait + Clock, G: Gate> Keeper<'a, K, J, R, G
         }
     }
 
-    /// A turn with the connection at a place.
+    /// A turn with the connection at a place, if its firm has time left in this round.
     fn turn(
         &self,
         seat: Seat<J>,
@@ -252,16 +295,27 @@ impl<'a, K: OpenJournal, J: Job, R: Wait + Clock, G: Gate> Keeper<'a, K, J, R, G
         second: u64,
         at: usize,
     ) -> Seat<J> {
+        let micros = clients.time_of(at);
+        let Ok(start) = Instant::now(self.worker.rt) else {
+            return seat;
+        };
+        if micros == 0 {
+            clients.pass_over(at);
+            return seat;
+        }
+        let span = Span { start, micros };
         let mut over = false;
         let mut seat = seat;
         if let Some(Some(client)) = clients.places.get_mut(at) {
             let before = self.begin_turn(client);
-            seat = client.turn(&self.worker, seat, piece, second);
+            seat = client.turn(&self.worker, seat, piece, second, span);
             self.end_turn(client, before, piece);
             over = client.is_over();
+            clients
+                .shares
+                .note(client.share(), span.used(self.worker.rt));
         }
-        clients.note_logon(at);
-        clients.list(at);
+        clients.end_turn(at);
         if over {
             self.close(clients, at, second, ended_by(clients.at(at)));
         }
@@ -276,6 +330,7 @@ impl<'a, K: OpenJournal, J: Job, R: Wait + Clock, G: Gate> Keeper<'a, K, J, R, G
             let Some(at) = round.ready.pop() else {
                 break;
             };
+            self.know(&mut seat, clients, second, at);
             seat = self.turn(seat, clients, &mut round.piece, second, at);
         }
         seat
@@ -292,8 +347,19 @@ impl<'a, K: OpenJournal, J: Job, R: Wait + Clock, G: Gate> Keeper<'a, K, J, R, G
         }
     }
 
+    /// Closes the stranger at a place, if it has been one for too long.
+    fn end_late(&self, clients: &mut Clients<'a, J>, second: u64, at: usize) {
+        let late = match clients.stranger_at(at) {
+            Some(stranger) => stranger.is_late(self.worker.rt, self.worker.logon_wait),
+            None => false,
+        };
+        if late {
+            self.close_stranger(clients, at, second);
+        }
+    }
+
     /// Each second: a turn with each connection that had none, the end of those whose peer takes
-    /// nothing, and a word on those that were closed for a limit.
+    /// nothing, and of strangers that stay it, and a word on those that were closed for a limit.
     fn tick(&self, seat: Seat<J>, clients: &mut Clients<'a, J>, round: &mut Round<J>) -> Seat<J> {
         self.worker.tallies.tell(self.worker.rt);
         let mut seat = seat;
@@ -301,6 +367,7 @@ impl<'a, K: OpenJournal, J: Job, R: Wait + Clock, G: Gate> Keeper<'a, K, J, R, G
         clients.begin_second(second);
         for at in 0..clients.places.len() {
             self.end_stalled(clients, second, at);
+            self.end_late(clients, second, at);
             let quiet = match clients.at(at) {
                 Some(client) => client.is_quiet(second),
                 _ => false,
@@ -318,8 +385,22 @@ impl<'a, K: OpenJournal, J: Job, R: Wait + Clock, G: Gate> Keeper<'a, K, J, R, G
         let worker = &self.worker;
         let words = &self.bells.words;
         words.renew(worker.rt, recorder)?;
+        let before = recorder.kept();
         recorder.record(worker.rt, worker.alloc, worker.desk, worker.tallies.board())?;
+        if recorder.kept() > before {
+            self.spread(before);
+        }
         words.renew(worker.rt, recorder)
+    }
+
+    /// Spreads what is kept now above an entry. Where memory lacks for that, it is heard with the
+    /// next tick.
+    fn spread(&self, above: u32) {
+        let worker = &self.worker;
+        if let Ok(news) = worker.desk.news_above(worker.rt, worker.alloc, above) {
+            let bells = self.bells;
+            bells.news.spread(bells, news.as_slice(), self.bell.at);
+        }
     }
 
     /// Records what the desk has answered, if nobody else does so now: whether it did.
@@ -338,6 +419,15 @@ impl<'a, K: OpenJournal, J: Job, R: Wait + Clock, G: Gate> Keeper<'a, K, J, R, G
         }
         recorded?;
         Ok(true)
+    }
+
+    /// Looks whether the journal is where it was, if nobody records now: a record looks too.
+    fn look(&self) -> Result<(), KeepError> {
+        let Some(mut guard) = self.recorder.try_lock() else {
+            return Ok(());
+        };
+        let recorder = &mut *guard;
+        recorder.look()
     }
 
     /// Has what the newest bytes rest on recorded, and a further word asked for, if that is due: by
@@ -407,6 +497,13 @@ impl<'a, K: OpenJournal, J: Job, R: Wait + Clock, G: Gate> Keeper<'a, K, J, R, G
         Ok(())
     }
 
+    /// Has connections have a turn for what is new, if the worker was told of some.
+    fn hear(&self, clients: &mut Clients<'a, J>) {
+        if self.bell.news.swap(false, Ordering::SeqCst) {
+            clients.hear();
+        }
+    }
+
     /// Waits until a connection is ready, the worker is woken or a second is over.
     fn wait(
         &self,
@@ -416,10 +513,14 @@ impl<'a, K: OpenJournal, J: Job, R: Wait + Clock, G: Gate> Keeper<'a, K, J, R, G
         round: &mut Round<J>,
         start: Instant,
     ) -> Result<(), KeepError> {
-        let most = if clients.hurried.is_empty() {
-            1000 - round.millis % 1000
-        } else {
+        let most = if clients.is_hurried() {
             0
+        } else if clients.some_rest() {
+            1
+        } else if clients.has_late() {
+            LATE_WAIT
+        } else {
+            1000 - round.millis % 1000
         };
         if poll
             .poll(events, Some(Duration::from_millis(most)))
@@ -433,6 +534,8 @@ impl<'a, K: OpenJournal, J: Job, R: Wait + Clock, G: Gate> Keeper<'a, K, J, R, G
         let millis = now.as_secs().saturating_mul(1000);
         round.millis = millis.saturating_add(u64::from(now.subsec_millis()));
         note(events, clients, round);
+        clients.begin_round(round.millis);
+        self.hear(clients);
         hurry(clients, round);
         Ok(())
     }
@@ -461,18 +564,24 @@ impl<'a, K: OpenJournal, J: Job, R: Wait + Clock, G: Gate> Keeper<'a, K, J, R, G
             let Some(mut mine) = seat.take() else {
                 return Ok(());
             };
+            clients.shares.begin_round();
             mine = self.turns(mine, clients, round);
-            if round.millis / 1000 != round.second {
+            let ticks = round.millis / 1000 != round.second;
+            if ticks {
                 round.second = round.millis / 1000;
                 mine = self.tick(mine, clients, round);
             }
             self.make_way(clients, round.second);
             if round.woken && coming {
-                coming = self.take_all(poll, &mut mine, clients, round.second);
+                coming = self.take_all(poll, clients, round.second);
             }
             round.newest = self.worker.desk.ticket(&mut mine);
             *seat = Some(mine);
+            if ticks {
+                self.look()?;
+            }
             self.tell(clients, round)?;
+            self.hear(clients);
             if !coming && clients.is_empty() {
                 return Ok(());
             }
@@ -503,9 +612,11 @@ impl<'a, K: OpenJournal, J: Job, R: Wait + Clock, G: Gate> Keeper<'a, K, J, R, G
             piece,
             millis: 0,
             second: 0,
+            asked: 0,
             newest,
         };
-        let mut clients = Clients::new(alloc);
+        let house = self.worker.house;
+        let mut clients = Clients::new(alloc, house, &self.bells.news, self.bell.at);
         let mut seat = Some(seat);
         let served = self.serve(&mut poll, &mut events, &mut seat, &mut clients, &mut round);
         if served.is_err() {

@@ -1,7 +1,11 @@
 //! `keep`: a server whose book is kept in a journal, with many connections.
 //!
-//! - Each worker polls its own connections and gives each that is ready a turn; whoever finds the
+//! - A connection is a stranger until its first byte, which takes little memory.
+//! - Each worker polls its own connections and gives each that is ready a turn, which ends; the
+//!   connections of a firm share the time of one turn in a round. Whoever finds the
 //!   journal's lock free records what was answered, and asks for the other machines' word.
+//! - Once a group is kept the workers are woken that have connections of a firm that it concerns,
+//!   and these connections have a turn.
 //! - The watch ends a server of which a part stands still, also in its start. It shuts the listener
 //!   first, so that a process that can't end holds no port.
 //! - The pages of `--status` are answered on threads of their own, many at a time.
@@ -15,11 +19,16 @@ mod client;
 mod clients;
 mod keeper;
 mod lingering;
+mod news;
 mod pages;
+mod privacy;
 mod running;
 mod said;
+mod shares;
 mod shutter;
 mod starting;
+mod stepping;
+mod stranger;
 mod visit;
 mod watch;
 mod words;

@@ -2,9 +2,8 @@
 //! the peer ends too. A close with bytes unread would make the system send a reset, which destroys
 //! what the peer hasn't read.
 
-use gu_connection::LINGER_WAIT;
+use gu_recorder::Wire;
 use std::io::{ErrorKind, Read};
-use std::net::{Shutdown, TcpStream};
 
 /// How many of them a worker has at the most. Where there are more, the oldest is closed.
 pub(crate) const MOST_LINGERING: usize = 512;
@@ -15,11 +14,10 @@ const PIECE: usize = 4096;
 const MOST_READS: usize = 256;
 
 /// Reads what has come, and throws it away: whether more may come.
-pub(crate) fn read_away(stream: &TcpStream) -> bool {
+pub(crate) fn read_away(wire: &mut Wire) -> bool {
     let mut piece = [0u8; PIECE];
-    let mut from: &TcpStream = stream;
     for _ in 0..MOST_READS {
-        match from.read(&mut piece) {
+        match wire.read(&mut piece) {
             Ok(0) => return false,
             Ok(_) => {}
             Err(error) => {
@@ -34,26 +32,28 @@ pub(crate) fn read_away(stream: &TcpStream) -> bool {
 #[derive(Drop)]
 pub(crate) struct Lingering {
     pub(crate) at: usize,
-    stream: TcpStream,
+    wire: Wire,
     /// The last second in which its peer may go on.
     until: u64,
 }
 
 impl Lingering {
-    /// Tells the peer that no more comes. Nothing, if the peer has ended too.
-    pub(crate) fn new(at: usize, stream: TcpStream, second: u64) -> Option<Lingering> {
-        if stream.shutdown(Shutdown::Write).is_err() || !read_away(&stream) {
+    /// Tells the peer that no more comes, which may go on for so many seconds. Nothing, if it has
+    /// ended too.
+    pub(crate) fn new(at: usize, wire: Wire, second: u64, wait: u64) -> Option<Lingering> {
+        let mut wire = wire;
+        if wire.end_writing().is_err() || !read_away(&mut wire) {
             return None;
         }
         Some(Lingering {
             at,
-            stream,
-            until: second.saturating_add(LINGER_WAIT),
+            wire,
+            until: second.saturating_add(wait),
         })
     }
 
     /// Whether it is to stay open: its peer hasn't ended, and has time.
-    pub(crate) fn stays(&self, second: u64) -> bool {
-        second <= self.until && read_away(&self.stream)
+    pub(crate) fn stays(&mut self, second: u64) -> bool {
+        second <= self.until && read_away(&mut self.wire)
     }
 }

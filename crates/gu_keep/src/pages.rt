@@ -28,6 +28,9 @@ const MOST_STEPS: usize = 4096;
 /// How many conversations a window has at a time. Others wait.
 const MOST_AT_ONCE: u64 = 64;
 
+/// How long whoever listens on a socket may take to be found, in milliseconds.
+const ASKED_FOR: u64 = 1000;
+
 /// How long others wait, and the window after a fault of accept, in milliseconds.
 const SHORT_WAIT: u64 = 20;
 
@@ -40,30 +43,79 @@ pub(crate) enum Window {
     Socket(UnixListener),
 }
 
+/// Whether somebody listens on a socket, or nobody can tell within a second, as where whoever
+/// listens there takes nobody any more. It is asked on a thread of its own.
+fn is_listened_at<
+    R: Threads
+        + Wait
+        + Clock
+        + Net<Stream = TcpStream, Listener = TcpListener>
+        + Copy
+        + Send
+        + Sync
+        + 'static,
+>(rt: &R, alloc: Global, path: &str) -> bool {
+    let Ok((to, answer)) = crossbeam_channel::bounded::<bool, Global>(alloc, 1) else {
+        return true;
+    };
+    let Ok(path) = String::from_str(alloc, path) else {
+        return true;
+    };
+    let there = *rt;
+    let asks = thread::spawn(rt, move || {
+        let is_there = UnixStream::connect(&there, path.as_str()).is_ok();
+        let _ = to.try_send(&there, is_there);
+    });
+    if asks.is_err() {
+        return true;
+    }
+    match answer.recv_timeout(rt, Duration::from_millis(ASKED_FOR)) {
+        Ok(is_there) => is_there,
+        Err(_) => true,
+    }
+}
+
 /// Takes the socket away that an earlier run left at a path. Another file stays, as does a socket
 /// on which somebody listens.
-fn make_way<R: Net + Files>(rt: &R, path: &str) -> io::Result<()> {
+fn make_way<
+    R: Threads
+        + Wait
+        + Clock
+        + Net<Stream = TcpStream, Listener = TcpListener>
+        + Files
+        + Copy
+        + Send
+        + Sync
+        + 'static,
+>(rt: &R, alloc: Global, path: &str) -> io::Result<()> {
     let Ok(found) = fs::symlink_metadata(rt, path) else {
         return Ok(());
     };
-    if found.file_type().is_socket() && UnixStream::connect(rt, path).is_err() {
+    if found.file_type().is_socket() && !is_listened_at(rt, alloc, path) {
         return fs::remove_file(rt, path);
     }
     Ok(())
 }
 
 /// Listens at a place: on a port of 127.0.0.1, or on a socket.
-pub(crate) fn listen_at<R: Net<Stream = TcpStream, Listener = TcpListener> + Files>(
-    rt: &R,
-    place: &StatusAt,
-) -> io::Result<Window> {
+pub(crate) fn listen_at<
+    R: Threads
+        + Wait
+        + Clock
+        + Net<Stream = TcpStream, Listener = TcpListener>
+        + Files
+        + Copy
+        + Send
+        + Sync
+        + 'static,
+>(rt: &R, alloc: Global, place: &StatusAt) -> io::Result<Window> {
     match place {
         StatusAt::Port(port) => {
             let at = SocketAddr::from((Ipv4Addr::LOCALHOST, *port));
             Ok(Window::Port(TcpListener::bind(rt, at)?))
         }
         StatusAt::Socket(path) => {
-            make_way(rt, path.as_str())?;
+            make_way(rt, alloc, path.as_str())?;
             Ok(Window::Socket(UnixListener::bind(rt, path.as_str())?))
         }
     }

@@ -3,12 +3,14 @@
 use crate::accepting::Inlets;
 use crate::bells::{Bell, Bells};
 use crate::keeper::{Keeper, WOKEN};
+use crate::news::NewsBoard;
 use crate::shutter::Shutter;
 use crate::words::Words;
 use crossbeam_channel::Sender;
 use gu_command::KeepError;
 use gu_connection::Worker;
 use gu_desk::{Gate, Job, Seat};
+use gu_parties::House;
 use gu_recorder::{OpenJournal, Recorder};
 use mio::net::TcpListener;
 use mio::unix::SourceFd;
@@ -38,11 +40,11 @@ pub(crate) fn make_polls<R: Net + Clock>(
     let words = Words::new(rt, need_words)?;
     let mut bells: Vec<Bell> = Vec::new(alloc);
     let mut polls: Vec<Poll> = Vec::new(alloc);
-    for _ in 0..workers {
+    for at in 0..workers {
         let Ok((poll, waker)) = make_poll(rt) else {
             return Err(KeepError::Poll);
         };
-        if bells.push(Bell::new(waker)).is_err() || polls.push(poll).is_err() {
+        if bells.push(Bell::new(waker, at)).is_err() || polls.push(poll).is_err() {
             return Err(KeepError::Memory);
         }
     }
@@ -54,6 +56,7 @@ pub(crate) fn make_polls<R: Net + Clock>(
         acceptor,
         stop: std::sync::atomic::AtomicBool::new(false),
         words,
+        news: NewsBoard::new(alloc),
     };
     Ok((bells, polls, poll))
 }
@@ -129,6 +132,15 @@ fn next_keeper<'a, K: OpenJournal, J: Job, R, G>(
     Ok((keeper, poll, inlet))
 }
 
+/// These, with news of the firms of a house.
+fn named(waits: Polls, house: &House) -> Result<Polls, KeepError> {
+    let (mut bells, polls, poll) = waits;
+    match bells.news.name_all(house) {
+        Ok(()) => Ok((bells, polls, poll)),
+        Err(_) => Err(KeepError::Memory),
+    }
+}
+
 /// Registers the listener with the poll of the thread that accepts.
 fn watch(poll: &Poll, listener: &TcpListener) -> Result<(), KeepError> {
     let fd = listener.as_raw_fd();
@@ -188,7 +200,7 @@ pub(crate) fn run_keepers<
     seats: Vec<Seat<J>>,
     connections: u32,
 ) -> Result<Vec<Seat<J>>, KeepError> {
-    let (bells, polls, poll) = waits;
+    let (bells, polls, poll) = named(waits, first.house)?;
     watch(&poll, &listener)?;
     let bells = &bells;
     thread::scope(thread::scope_env(), first.rt, move |scope| {

@@ -5,9 +5,9 @@ use gu_base::FirmId;
 use gu_board::{Board, Work, number, text};
 use gu_log::{Event, Key};
 use gu_parties::House;
+use gu_recorder::Wire;
 use gu_status::REASONS;
 use std::alloc::Global;
-use std::net::TcpStream;
 use std::sync::Wait;
 use std::time::Clock;
 
@@ -36,8 +36,8 @@ pub(crate) struct Visit {
 }
 
 /// The address of a peer, in words.
-fn peer_of(alloc: Global, stream: &TcpStream) -> String {
-    if let Ok(peer) = stream.peer_addr() {
+fn peer_of(alloc: Global, wire: &Wire) -> String {
+    if let Ok(peer) = wire.peer_addr() {
         if let Ok(text) = format!(in alloc; "{peer}") {
             return text;
         }
@@ -62,19 +62,14 @@ fn reasons_text(alloc: Global, reasons: &[u64; REASONS]) -> String {
 
 impl Visit {
     /// A connection that was taken in this second.
-    pub(crate) fn new(
-        alloc: Global,
-        board: Option<&Board>,
-        stream: &TcpStream,
-        second: u64,
-    ) -> Visit {
+    pub(crate) fn new(alloc: Global, board: Option<&Board>, wire: &Wire, second: u64) -> Visit {
         let number = match board {
             Some(board) => board.enters(),
             None => 0,
         };
         Visit {
             number,
-            peer: peer_of(alloc, stream),
+            peer: peer_of(alloc, wire),
             since: second,
             work: Work::default(),
             reasons: [0; REASONS],
@@ -171,7 +166,7 @@ impl Visit {
     }
 
     /// Says that it has ended in this second, of a firm that had logged on; and why, which it knows
-    /// itself where no reason is given.
+    /// itself where no reason is given; and how many messages are left that the peer didn't take.
     pub(crate) fn say_end<R: Wait + Clock>(
         &self,
         rt: &R,
@@ -179,6 +174,7 @@ impl Visit {
         firm: &FirmId,
         second: u64,
         why: Option<&'static str>,
+        left: u64,
     ) {
         let why = match why {
             Some(why) => why,
@@ -197,7 +193,13 @@ impl Visit {
             number(Key::BytesIn, self.work.read),
             number(Key::BytesOut, self.sent),
             text(Key::Why, why.as_bytes()),
+            number(Key::AnswersLeft, left),
         ];
-        board.say(rt, Event::Ended, &fields);
+        let count = if left > 0 {
+            fields.len()
+        } else {
+            fields.len() - 1
+        };
+        board.say(rt, Event::Ended, &fields[..count]);
     }
 }

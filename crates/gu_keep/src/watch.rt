@@ -12,8 +12,10 @@ ghost use Rattle.gu_connection.specs.Serving.{IsServed};
 ghost use Rattle.gu_keep.specs.Keeping.{Keeps};
 
 use crate::pages::listen_at;
+use crate::privacy::guard;
 use crate::shutter::{Shutter, Watched};
 use crate::starting::keep_port;
+use crate::stepping::ClockWatch;
 use crossbeam_channel::{Receiver, RecvTimeoutError, Sender};
 use gu_batch::{Sink, write_totals};
 use gu_board::{Board, Log, Written, number, say_started, text};
@@ -67,6 +69,7 @@ fn say_stuck<R: Wait + Clock>(rt: &R, alloc: Global, board: &Board, part: Part) 
     let name = match part {
         Part::Journal => String::from_str(alloc, "journal"),
         Part::Acceptor => String::from_str(alloc, "acceptor"),
+        Part::Clock => String::from_str(alloc, "clock"),
         Part::Worker(at) => format!(in alloc; "worker {at}"),
     };
     if let Ok(name) = name {
@@ -78,9 +81,16 @@ fn say_stuck<R: Wait + Clock>(rt: &R, alloc: Global, board: &Board, part: Part) 
     }
 }
 
-/// Waits until a server has ended, or a part of it stands still: which.
-fn watch<R: Wait + Clock>(rt: &R, ended: &Receiver<u8>, board: &Board) -> Option<Part> {
+/// Waits until a server has ended, or a part of it stands still: which. Looks at the clock too.
+fn watch<R: Wait + Clock>(
+    rt: &R,
+    alloc: Global,
+    ended: &Receiver<u8>,
+    board: &Board,
+) -> Option<Part> {
+    let mut clock = ClockWatch::new();
     for _ in rt.forever() {
+        clock.look(rt, alloc, board);
         match ended.recv_timeout(rt, Duration::from_secs(1)) {
             Err(RecvTimeoutError::Timeout) => {}
             _ => return None,
@@ -136,7 +146,7 @@ fn keep_beside<
     let Ok(child) = thread::spawn_with(rt, promise, server) else {
         return Err(Fault::Keep(KeepError::NoThread));
     };
-    match watch(rt, &ended, board) {
+    match watch(rt, alloc, &ended, board) {
         None => child.join(rt),
         Some(part) => {
             say_stuck(rt, alloc, board, part);
@@ -164,7 +174,7 @@ fn open_window<
     let Ok(shared) = Arc::try_clone(board) else {
         return Err(KeepError::Memory);
     };
-    let Ok(window) = listen_at(rt, place) else {
+    let Ok(window) = listen_at(rt, alloc, place) else {
         return Err(KeepError::Status);
     };
     let there = *rt;
@@ -269,7 +279,7 @@ fn open_board<R: Threads + Wait + Eprint + Copy + Send + Sync + 'static>(
     }
 }
 
-/// Opens the pages that an order asks for, and serves, on a thread of its own.
+/// Guards the journal, opens the pages that an order asks for, and serves, on a thread of its own.
 fn keep_told<
     R: Threads
         + Wait
@@ -295,6 +305,7 @@ fn keep_told<
     ensures served { IfOk result (λ b. IsServed house (stored b)) }
     ensures fault { IfErr result (λ e. IsTrue (is_keep_fault e)) }
 {
+    guard(rt, board, order.journal.as_str());
     match open_told(rt, alloc, &order, board) {
         Ok(tie) => keep_beside(rt, alloc, journals, text, house, order, board, tie),
         Err(error) => {

@@ -34,11 +34,10 @@ abbrev pub has_room : Limits → Bool → ℕ → Bool
 has_room limits true count = true
 has_room limits false count = not (reaches limits.per_firm count)
 
--- the further messages of a firm wait, since it has made its calls of the second; the house's
--- never do
-abbrev pub lets_wait : Limits → Bool → ℕ → Bool
-lets_wait limits true calls = false
-lets_wait limits false calls = reaches limits.rate calls
+-- the rate of a firm; the house has none
+abbrev pub rate_of : Limits → Bool → Option ℕ
+rate_of limits true = None
+rate_of limits false = limits.rate
 
 -- for how many seconds a firm that has logged on may say nothing: three heartbeats of an hour
 abbrev pub most_silence : ℕ

@@ -1,19 +1,20 @@
--- How many calls a firm makes in a second, in one word.
-use Rattle.std.specs.Prelude.{ℕ, ◌*◌, ◌/◌, ◌%◌, ◌^◌, nat_le, nat_lt, if◌then◌else◌}
-use Rattle.std.specs.Prelude.{Option, Some, None}
+-- Until when a firm has had its rate.
+use Rattle.std.specs.Prelude.{ℕ, ◌+◌, ◌-◌, ◌*◌, ◌/◌, ◌^◌, nat_lt, max, min, Bool}
 
--- how many calls a word has room for
-abbrev pub span : ℕ
-span = 2 ^ 32
+-- how many nanoseconds a second has
+abbrev pub second : ℕ
+second = 1_000_000_000
 
--- the second that it is about, and the calls that were made in that
-abbrev pub second_of : ℕ → ℕ
-second_of word = word / span
+-- how far ahead of the clock a firm may be: an eighth of a second
+abbrev pub most_ahead : ℕ
+most_ahead = 125_000_000
 
--- the calls that were made in this second, or in a later one where another clock is ahead
-abbrev pub calls_at : ℕ → ℕ → ℕ
-calls_at word second = if nat_le second (second_of word) then word % span else 0
+-- a firm that has had its rate until a moment has no more now
+abbrev pub is_ahead : ℕ → ℕ → Bool
+is_ahead until now = nat_lt most_ahead (until - now)
 
--- the word of a second that begins, where the word is about an earlier one
-abbrev pub begun_at : ℕ → ℕ → Option ℕ
-begun_at word second = if nat_lt (second_of word) second then Some (second * span) else None
+-- until when it has had its rate, once so many messages more are counted now
+abbrev pub counted : ℕ → ℕ → ℕ → ℕ → ℕ
+counted until now rate count =
+    min (2 ^ 64 - 1)
+    (max until now + min (2 ^ 64 - 1) (count * (second / max rate 1)))

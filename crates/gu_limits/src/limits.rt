@@ -3,7 +3,8 @@
 ghost use Rattle.std.specs.Prelude.{◌≡◌, ℕ, Bool, false, None};
 ghost use Rattle.gu_limits.specs.Admission.{reaches, unreserved as unreserved_of, bounds_entries};
 ghost use Rattle.gu_limits.specs.Admission.{excess_of_call as excess_of, has_room as has_room_of};
-ghost use Rattle.gu_limits.specs.Admission.{lets_wait as lets_wait_of, is_silent as is_silent_of};
+ghost use Rattle.gu_limits.specs.Admission.{rate_of};
+ghost use Rattle.gu_limits.specs.Admission.{is_silent as is_silent_of};
 
 use crate::ending::Ending;
 use gu_base::Number;
@@ -19,7 +20,7 @@ pub struct Limits {
     pub most_entries: Option<u32>,
     /// How many of the 1,000,000 entries that a book may have are the house's alone.
     pub reserve: Option<u32>,
-    /// How many calls of a firm are made in a second. Further messages of it wait.
+    /// How many messages a firm sends, or has sent again, in a second. Its further calls wait.
     pub rate: Option<u32>,
     /// How many connections of a firm may have logged on.
     pub per_firm: Option<u32>,
@@ -87,12 +88,11 @@ impl Limits {
         is_house || !reaches_limit(self.per_firm, count)
     }
 
-    /// Whether the further messages of a firm wait that has made so many calls in a second. The
-    /// house's never do.
-    pub fn lets_wait(&self, is_house: bool, calls: u64) -> bool
-        ensures { result ≡ lets_wait_of self.now is_house calls }
+    /// The rate of a firm, if it has one. The house has none.
+    pub fn rate_of(&self, is_house: bool) -> Option<u32>
+        ensures { result ≡ rate_of self.now is_house }
     {
-        !is_house && reaches_limit(self.rate, calls)
+        if !is_house { self.rate } else { None }
     }
 }
 

@@ -36,13 +36,17 @@ pub enum Event {
     Suppressed,
     /// A part of the server stands still.
     Stuck,
+    /// The wall clock has been set.
+    ClockStepped,
+    /// Others may read the journal.
+    Readable,
     /// The server ends.
     Stopped,
 }
 
 impl Event {
     /// All of them.
-    pub const ALL: [Event; 16] = [
+    pub const ALL: [Event; 18] = [
         Event::Started,
         Event::Recovering,
         Event::Recovered,
@@ -58,6 +62,8 @@ impl Event {
         Event::LinesLost,
         Event::Suppressed,
         Event::Stuck,
+        Event::ClockStepped,
+        Event::Readable,
         Event::Stopped,
     ];
 
@@ -81,6 +87,8 @@ impl Event {
             Event::LinesLost => "lines_lost",
             Event::Suppressed => "suppressed",
             Event::Stuck => "stuck",
+            Event::ClockStepped => "clock_stepped",
+            Event::Readable => "readable",
             Event::Stopped => "stopped",
         }
     }
@@ -122,6 +130,8 @@ pub enum Key {
     Bytes,
     BytesIn,
     BytesOut,
+    /// How many messages the peer didn't take.
+    AnswersLeft,
     /// How long it took.
     Seconds,
     Milliseconds,
@@ -153,6 +163,8 @@ pub enum Key {
     /// Of which events, and how many lines.
     Of,
     Lines,
+    /// By how many seconds.
+    By,
     /// The status that the program ends with.
     Status,
 }
@@ -185,6 +197,7 @@ impl Key {
             Key::Bytes => "bytes",
             Key::BytesIn => "bytes_in",
             Key::BytesOut => "bytes_out",
+            Key::AnswersLeft => "answers_left",
             Key::Seconds => "seconds",
             Key::Milliseconds => "ms",
             Key::Connection => "connection",
@@ -203,6 +216,7 @@ impl Key {
             Key::Part => "part",
             Key::Of => "of",
             Key::Lines => "lines",
+            Key::By => "by",
             Key::Status => "status",
         }
     }

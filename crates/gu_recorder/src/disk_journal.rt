@@ -11,6 +11,7 @@ ghost use Rattle.gu_journal.specs.Session.{digest_text};
 ghost use Rattle.gu_recorder.specs.Replicas.{HasAnswered, HasWord};
 
 use crate::journals::{Checksum, OpenJournal};
+use crate::place::Place;
 use crate::replica::{Replica, allowed, answered, offered};
 use gu_base::{Entry, Memory};
 use gu_book::{Book, HashKey};
@@ -23,14 +24,15 @@ use gu_parties::House;
 use sqlite_disk::Disk;
 use std::alloc::Global;
 
-/// A journal over a disk, the house table of its house, and the line to other machines, if they are
-/// to have it too.
+/// A journal over a disk, the house table of its house, the line to other machines, if they are to
+/// have it too, and where its file stands, if it has one.
 #[derive(Drop)]
 pub struct DiskJournal<D: Disk> {
     /// The journal, whose clauses say what a crash leaves.
     pub journal: Journal<D>,
     pub(crate) house: House,
     pub(crate) replica: Option<Replica>,
+    pub(crate) place: Option<Place>,
 }
 
 impl<D: Disk> Keeps for DiskJournal<D> {
@@ -87,6 +89,13 @@ impl<D: Disk> OpenJournal for DiskJournal<D> {
         }
     }
 
+    fn is_there(&self) -> bool {
+        match &self.place {
+            Some(place) => place.has(self.journal.len()),
+            None => true,
+        }
+    }
+
     // Other machines take the group while it is opened here.
     fn record(&mut self, moment: &[u8], entries: &[Entry]) -> Result<(), RecordError> {
         match self.journal.stage(moment, entries) {
@@ -128,6 +137,7 @@ impl<D: Disk + Drop> DiskJournal<D> {
                 journal,
                 house,
                 replica: None,
+                place: None,
             }),
             Err(error) => {
                 drop(journal);
@@ -200,9 +210,11 @@ impl<D: Disk + Drop> DiskJournal<D> {
             journal,
             house,
             replica,
+            place,
         } = self;
         drop(house);
         drop(replica);
+        drop(place);
         journal.into_disk()
     }
 }

@@ -63,6 +63,11 @@ pub trait OpenJournal: Keeps {
         ensures kept { (h : List Entry) → Self.Keeps.keeps self.old h
             → Self.Keeps.keeps self.new h };
 
+    /// Whether its file, if it has one, is where it was opened, and not shorter than what it says.
+    fn is_there(&self) -> bool {
+        true
+    }
+
     /// What an operator may compare its file with. None where it has no file, or memory lacks.
     fn checksum(&self) -> Option<Checksum> {
         None

@@ -3,7 +3,8 @@
 //! - A `Recorder` records what the desk has answered, in an `OpenJournal`: a journal over a disk
 //!   (`DiskJournal`), whose entries other machines may have to have too.
 //! - A desk of a kept book begins and ends with its recorder.
-//! - An `Outbox` sends nothing before the history that it rests on is kept.
+//! - An `Outbox` sends nothing before the history that it rests on is kept, and nothing else goes
+//!   out through a `Wire`.
 //! - `SystemJournals` opens the journal of a path.
 #![tactic(auto)]
 
@@ -12,9 +13,11 @@ mod disk_journal;
 mod journals;
 mod made;
 mod outbox;
+mod place;
 mod recorder;
 mod replica;
 mod system;
+mod wire;
 
 pub use desk::{close_desk, open_desk};
 pub use disk_journal::DiskJournal;
@@ -23,3 +26,4 @@ pub use made::MadeByte;
 pub use outbox::{Outbox, Rest};
 pub use recorder::Recorder;
 pub use system::SystemJournals;
+pub use wire::Wire;

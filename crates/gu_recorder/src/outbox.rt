@@ -1,21 +1,24 @@
 //! What a connection is to be sent, in the order in which it was made.
 //!
-//! What was made of a history waits until that history is kept. `write` alone writes to a socket,
-//! and asks for the receipt.
+//! What was made of a history waits until that history is kept: `wire.rt`'s `write` asks for it.
 
-ghost use Rattle.std.specs.Prelude.{◌≡◌, ◌≤◌, ◌++◌, ◌↔◌, [], length, take, drop};
-ghost use Rattle.std.specs.Prelude.{IfOk, MatchResult, OnOk, OnErr, IsTrue};
-ghost use Rattle.gu_recorder.specs.Waiting.{bytes_of, made_of, RestOn, Holds, Sends};
+ghost use Rattle.std.specs.Prelude.{◌≡◌, ◌≤◌, ◌++◌, ◌↔◌, [], length, drop};
+ghost use Rattle.std.specs.Prelude.{IfOk, OnOk, OnErr, IsTrue};
+ghost use Rattle.gu_recorder.specs.Waiting.{made_of, Holds, Sends};
 ghost use Rattle.gu_recorder.specs.declared.outbox.Rest.TheVariants.{Nothing};
 
-use crate::made::{Made, made_after, made_behind, nothing_made, sent_behind};
+use crate::made::{Made, made_after, made_behind, nothing_made};
+use crate::wire::{Wire, write};
 use gu_connection::{Closed, Connection};
 use gu_desk::{Desk, Job, Seat, Ticket};
 use std::alloc::Global;
-use std::io::{ErrorKind, Write};
 use std::marker::Model;
 use std::mem::{replace, swap};
-use std::net::TcpStream;
+
+/// What a message begins with, and what stands before each field but the first.
+const BEGINS: &[u8] = b"8=FIX";
+
+const SOH: u8 = 1;
 
 /// Bytes to be sent, and a ticket for a history that begins with each that they were made of.
 /// Contracts see the bytes, each with its history.
@@ -68,35 +71,15 @@ impl<J: Job> Model for Outbox<J> {
     ghost view = { λ o. record { sent = o.sent.bytes; waits = o.front ++ o.back } };
 }
 
-/// Writes what the peer takes of these bytes, and tells how many. Each history that they were made
-/// of is kept, as the ticket knows.
-fn write<J: Job>(
-    ticket: &Ticket<J>,
-    made: &Made,
-    sent: &mut Made,
-    stream: &TcpStream,
-    bytes: &[u8],
-) -> Result<usize, Closed>
-    requires bytes { bytes.now ≡ bytes_of made.now.bytes }
-    requires kept { RestOn made.now.bytes ticket.now.kept }
-    ensures count { IfOk result (λ n. n ≤ length bytes.now) }
-    ensures sent { MatchResult result
-        (λ n. sent.new.bytes ≡ sent.old.bytes ++ take n made.now.bytes)
-        (λ _. sent.new.bytes ≡ sent.old.bytes) }
-{
-    let _ = ticket;
-    let mut to: &TcpStream = stream;
-    match to.write(bytes) {
-        Ok(0) => Err(Closed),
-        Ok(count) => {
-            *sent = sent_behind(sent, made, count);
-            Ok(count)
+/// How many messages begin in these bytes, and one more where they begin within one.
+fn messages_in(bytes: &[u8]) -> u64 {
+    let mut count = u64::from(!bytes.is_empty() && !bytes.starts_with(BEGINS));
+    for i in 0..bytes.len() {
+        if bytes[i] == BEGINS[0] && (i == 0 || bytes[i - 1] == SOH) {
+            count = count.saturating_add(u64::from(bytes[i..].starts_with(BEGINS)));
         }
-        Err(error) => match error.kind() {
-            ErrorKind::WouldBlock | ErrorKind::Interrupted => Ok(0),
-            _ => Err(Closed),
-        },
     }
+    count
 }
 
 /// Takes so many bytes from the front.
@@ -168,7 +151,7 @@ impl<J: Job> Batch<J> {
 
     /// Writes what the peer takes now of the bytes, if what they rest on is kept.
     #[tactic(auto, using(crate::proofs::Waiting::left_bytes, crate::proofs::Waiting::left_rests))]
-    fn send(&mut self, sent: &mut Made, desk: &Desk<J>, stream: &TcpStream) -> Result<Rest, Closed>
+    fn send(&mut self, sent: &mut Made, desk: &Desk<J>, wire: &Wire) -> Result<Rest, Closed>
         ensures sends { Sends (record { sent = sent.old.bytes; waits = self.old })
             (record { sent = sent.new.bytes; waits = self.new }) }
         ensures nothing { IfOk result (λ r. r ≡ Nothing → self.new ≡ []) }
@@ -179,7 +162,7 @@ impl<J: Job> Batch<J> {
         if !self.ticket.settle(desk) {
             return Ok(Rest::Unkept);
         }
-        match write(&self.ticket, &self.made, sent, stream, &self.bytes) {
+        match write(&self.ticket, &self.made, sent, wire, &self.bytes) {
             Ok(count) => {
                 pass(&mut self.bytes, count);
                 self.made = made_after(&self.made, count);
@@ -212,6 +195,12 @@ impl<J: Job> Outbox<J> {
         self.front.len().saturating_add(self.back.len())
     }
 
+    /// How many messages are to be sent, the first of them maybe in part.
+    pub fn messages(&self) -> u64 {
+        let front = messages_in(self.front.bytes.as_slice());
+        front.saturating_add(messages_in(self.back.bytes.as_slice()))
+    }
+
     /// Whether nothing is to be sent.
     pub fn is_empty(&self) -> bool
         ensures { IsTrue result ↔ (self.now.waits ≡ []) }
@@ -242,13 +231,13 @@ impl<J: Job> Outbox<J> {
 
     /// Sends what may go out, as far as the peer takes it: a front of what waits.
     #[tactic(auto, using(crate::proofs::Waiting::sends_front, crate::proofs::Waiting::sends_on))]
-    pub fn send(&mut self, desk: &Desk<J>, stream: &TcpStream) -> Result<Rest, Closed>
+    pub fn send(&mut self, desk: &Desk<J>, wire: &Wire) -> Result<Rest, Closed>
         ensures { Sends self.old self.new }
     {
-        match self.front.send(&mut self.sent, desk, stream) {
+        match self.front.send(&mut self.sent, desk, wire) {
             Ok(Rest::Nothing) => {
                 swap(&mut self.front, &mut self.back);
-                self.front.send(&mut self.sent, desk, stream)
+                self.front.send(&mut self.sent, desk, wire)
             }
             other => other,
         }

@@ -1,7 +1,7 @@
 //! The journal and its seat, behind a lock of their own: whoever takes it records what the desk has
 //! answered.
 
-ghost use Rattle.std.specs.Prelude.{◌≡◌, OnOk};
+ghost use Rattle.std.specs.Prelude.{◌≡◌, length, OnOk};
 ghost use Rattle.gu_desk.specs.Begins.{BeginsWith};
 
 use crate::journals::OpenJournal;
@@ -118,6 +118,28 @@ impl<K: OpenJournal, J: Job> Recorder<K, J> {
         Ok(())
     }
 
+    /// Looks whether the journal's file is where it was. Where it isn't nothing more is recorded.
+    pub fn look(&mut self) -> Result<(), KeepError>
+        ensures seen { self.new.seen ≡ self.old.seen }
+        ensures kept { self.new.kept ≡ self.old.kept }
+    {
+        if self.failed {
+            return Err(KeepError::Failed);
+        }
+        if !self.journal.is_there() {
+            self.failed = true;
+            return Err(KeepError::Record(RecordError::Gone));
+        }
+        Ok(())
+    }
+
+    /// How many entries are known to be durable.
+    pub fn kept(&self) -> u32
+        ensures { result ≡ length self.now.kept }
+    {
+        self.seat.kept()
+    }
+
     /// Records what the desk has answered since, counts it for an operator, and tells those that
     /// wait for it that it is kept.
     pub fn record<R: Wait + Clock>(
@@ -142,6 +164,10 @@ impl<K: OpenJournal, J: Job> Recorder<K, J> {
         let count = entries.len();
         if count == 0 {
             return Ok(());
+        }
+        if !self.journal.is_there() {
+            self.failed = true;
+            return Err(KeepError::Record(RecordError::Gone));
         }
         match self.journal.record(sent.as_bytes(), entries.as_slice()) {
             Ok(()) => {

@@ -7,6 +7,7 @@ ghost use Rattle.gu_command.specs.Faults.{is_keep_fault};
 
 use crate::disk_journal::DiskJournal;
 use crate::journals::Journals;
+use crate::place::Place;
 use crate::recorder::moment;
 use crate::replica::Replica;
 use gu_book::{Book, HashKey};
@@ -54,7 +55,7 @@ fn unrecovered(alloc: Global, path: &str, error: RecoverError) -> Fault
     }
 }
 
-/// What is said where nobody answers on the socket at a path.
+/// What is said where nobody answers on the socket at a path, or no file is there.
 fn unconnected(alloc: Global, path: &str, error: io::Error) -> Fault
     ensures { IsTrue (is_keep_fault result) }
 {
@@ -77,13 +78,15 @@ fn connected(rt: &HostRuntime, alloc: Global, path: Option<&str>) -> Result<Opti
     }
 }
 
-/// A book and its journal, once other machines have what this says, if they are to have it.
+/// A book and its journal, whose file stands here, once other machines have what this says, if they
+/// are to have it.
 fn replicated<D: Disk + Drop>(
     alloc: Global,
     path: &str,
     book: Book,
     kept: DiskJournal<D>,
     replica: Option<Replica>,
+    place: Place,
 ) -> Result<(Book, DiskJournal<D>), Fault>
     requires says { IsTrue (D.Disk.is_clean (disk_of kept.journal)) → (pin : List ℕ)
         × Keeps D.Disk.seen D.Disk.may_leave kept.house pin book.history kept.journal }
@@ -95,9 +98,14 @@ fn replicated<D: Disk + Drop>(
     ensures fault { IfErr result (λ e. IsTrue (is_keep_fault e)) }
 {
     match kept.replicated(replica) {
-        Some(kept) => Ok((book, kept)),
+        Some(kept) => {
+            let mut kept = kept;
+            kept.place = Some(place);
+            Ok((book, kept))
+        }
         None => {
             drop(book);
+            drop(place);
             Err(fault_at(alloc, path, RecordError::Replica))
         }
     }
@@ -138,9 +146,18 @@ impl<S: Start + Send + 'static> Journals for SystemJournals<S> {
                 return Err(unopened(alloc, path, error));
             }
         };
+        let place = match Place::of(rt, alloc, path) {
+            Ok(place) => place,
+            Err(error) => {
+                drop(house);
+                drop(replica);
+                drop(disk);
+                return Err(unconnected(alloc, path, error));
+            }
+        };
         let pin = HouseDigest::of(text);
         match DiskJournal::recover(alloc, disk, house, key, &pin, sent.as_bytes(), progress) {
-            Ok((book, kept)) => replicated(alloc, path, book, kept, replica),
+            Ok((book, kept)) => replicated(alloc, path, book, kept, replica, place),
             Err(error) => {
                 drop(replica);
                 Err(unrecovered(alloc, path, error))

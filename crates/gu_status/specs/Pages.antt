@@ -9,7 +9,7 @@ use Rattle.gu_status.specs.declared.pages.Asked.{Asked}
 use Rattle.gu_status.specs.declared.pages.Asked.TheVariants.{Figures, Readiness, Health, NoPage}
 use Rattle.gu_status.specs.declared.pages.Asked.TheVariants.{NoMethod}
 use Rattle.gu_status.specs.declared.parts.Part.{Part}
-use Rattle.gu_status.specs.declared.parts.Part.TheVariants.{Journal, Acceptor, Worker}
+use Rattle.gu_status.specs.declared.parts.Part.TheVariants.{Journal, Acceptor, Worker, Clock}
 use Rattle.gu_status.specs.declared.snapshot.Snapshot.{Snapshot}
 
 -- what a method and a path ask for
@@ -37,6 +37,7 @@ abbrev pub part_text : Part → Text
 part_text Journal = codes "journal"
 part_text Acceptor = codes "acceptor"
 part_text (Worker n) = codes "worker " ++ decimal n
+part_text Clock = codes "clock"
 
 -- which part stands still, if one does
 abbrev pub health_text : Option Part → Text

@@ -74,6 +74,7 @@ fn put_part(body: &mut Rope, part: Part) -> Result<(), AllocError>
             body.put_slice(b"worker ")?;
             body.put_slice(digits.format(number).as_bytes())
         }
+        Part::Clock => body.put_slice(b"clock"),
     }
 }
 

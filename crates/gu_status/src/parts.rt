@@ -12,6 +12,8 @@ pub enum Part {
     Acceptor,
     /// The worker of this number, from 0 on.
     Worker(usize),
+    /// The wall clock, which can't be told.
+    Clock,
 }
 
 /// When the parts moved last, in seconds from the start of the server.

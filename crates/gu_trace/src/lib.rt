@@ -9,6 +9,7 @@
 //! - `trace` writes the tree of a live trade, a line for each node with the fee of each claim;
 //!   `totals` writes positions, fees and used agreements in the order of the house file, with the
 //!   agreements that calls made behind those that are fixed, by their numbers.
+//! - `news_above` tells whom the entries above a number concern.
 //! - Each is a function of the book's house table and history, which the definitions in `specs/`
 //!   give; an error leaves `out` as it was.
 //! - The book is only read.
@@ -23,6 +24,7 @@ mod firm_numbers;
 mod index;
 mod laws;
 mod lookup;
+mod news;
 mod telling;
 mod tree_text;
 
@@ -30,5 +32,6 @@ pub use day_totals::totals;
 pub use gu_base::{Report, ReportPart, ReportParts, Target};
 pub use index::ConcernIndex;
 pub use laws::{an_index_stays, nothing_is_passed_over};
+pub use news::{News, news_above};
 pub use telling::{MOST_REPORTS, reports};
 pub use tree_text::{TraceError, trace};

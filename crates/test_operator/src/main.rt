@@ -116,6 +116,7 @@ fn tell_stuck(rt: &HostRuntime, journal: Option<u64>, acceptor: u64, workers: &[
         Some(Part::Worker(number)) => {
             let _ = println!(rt; "worker {number}");
         }
+        Some(Part::Clock) => say(rt, b"clock\n"),
     }
 }
 

@@ -67,6 +67,7 @@ const KEEP_ERRORS: &[KeepError] = &[
     KeepError::Record(RecordError::Unsaid),
     KeepError::Record(RecordError::Replica),
     KeepError::Record(RecordError::Silent),
+    KeepError::Record(RecordError::Gone),
     KeepError::Status,
     KeepError::Stuck,
     KeepError::Failed,

@@ -1,0 +1,30 @@
+//! How long a turn of `keep` takes messages.
+
+use gu_limits::is_spent;
+use std::time::{Clock, Instant};
+
+/// How long a turn takes messages: for so many microseconds from its start on.
+#[derive(Clone, Copy)]
+pub struct Span {
+    pub start: Instant,
+    pub micros: u64,
+}
+
+impl Span {
+    /// How many microseconds of it are over. All, where the clock can't be read.
+    pub fn used<R: Clock>(&self, rt: &R) -> u64 {
+        match self.start.elapsed(rt) {
+            Ok(passed) => passed.as_micros().min(u128::from(u64::MAX)) as u64,
+            Err(_) => u64::MAX,
+        }
+    }
+}
+
+/// Whether a turn that has taken so many messages takes no further one. One without a span takes
+/// all.
+pub(crate) fn is_over<R: Clock>(rt: &R, span: Option<Span>, count: usize) -> bool {
+    match span {
+        Some(span) => count > 0 && is_spent(count as u64, span.used(rt), span.micros),
+        None => false,
+    }
+}

@@ -1,0 +1,115 @@
+//! Who is to hear at once of what is kept now: the workers that have connections of a firm that a
+//! new entry concerns.
+
+use crate::bells::Bells;
+use gu_base::{FirmId, Memory};
+use gu_desk::News;
+use gu_parties::House;
+use indexmap::IndexMap;
+use std::alloc::{AllocError, Global};
+use std::sync::atomic::{AtomicU32, AtomicU64, Ordering};
+
+/// The last entry that is kept and concerns a firm, and the workers that have connections of it.
+#[derive(Drop)]
+struct Newest {
+    number: AtomicU32,
+    /// A bit for each.
+    workers: AtomicU64,
+}
+
+/// What is newest of each firm.
+#[derive(Drop)]
+pub(crate) struct NewsBoard {
+    firms: IndexMap<FirmId, Newest>,
+}
+
+/// The bit of a worker.
+fn bit(worker: u32) -> u64 {
+    1u64 << (worker % 64)
+}
+
+impl NewsBoard {
+    /// Nothing is new yet, and no firm is named.
+    pub(crate) fn new(alloc: Global) -> NewsBoard {
+        NewsBoard {
+            firms: IndexMap::new(alloc),
+        }
+    }
+
+    /// Names a firm.
+    fn name(&mut self, firm: FirmId) -> Result<(), Memory> {
+        let none = Newest {
+            number: AtomicU32::new(0),
+            workers: AtomicU64::new(0),
+        };
+        match self.firms.insert(firm, none) {
+            Ok(_) => Ok(()),
+            Err(_) => Err(AllocError),
+        }
+    }
+
+    /// Names the firms of a house, and the house.
+    pub(crate) fn name_all(&mut self, house: &House) -> Result<(), Memory> {
+        self.name(house.house())?;
+        for place in 0..house.firm_count() {
+            if let Some(firm) = house.firm_at(place) {
+                self.name(firm)?;
+            }
+        }
+        Ok(())
+    }
+
+    /// The place of a firm.
+    pub(crate) fn place_of(&self, firm: &FirmId) -> Option<usize> {
+        self.firms.get_index_of(firm)
+    }
+
+    /// The last entry that is kept and concerns the firm at a place, or 0.
+    pub(crate) fn newest(&self, place: usize) -> u32 {
+        match self.firms.get_index(place) {
+            Some((_, newest)) => newest.number.load(Ordering::SeqCst),
+            None => 0,
+        }
+    }
+
+    /// Notes that a worker has connections of the firm at a place.
+    pub(crate) fn join(&self, place: usize, worker: u32) {
+        if let Some((_, newest)) = self.firms.get_index(place) {
+            newest.workers.fetch_or(bit(worker), Ordering::SeqCst);
+        }
+    }
+
+    /// Notes that it has none any more.
+    pub(crate) fn part(&self, place: usize, worker: u32) {
+        if let Some((_, newest)) = self.firms.get_index(place) {
+            newest.workers.fetch_and(!bit(worker), Ordering::SeqCst);
+        }
+    }
+
+    /// Notes what is new, and gives the workers that have connections of the firms.
+    fn note(&self, news: &[News]) -> u64 {
+        let mut workers = 0u64;
+        for it in news {
+            if let Some(newest) = self.firms.get(&it.firm) {
+                newest.number.fetch_max(it.number, Ordering::SeqCst);
+                workers |= newest.workers.load(Ordering::SeqCst);
+            }
+        }
+        workers
+    }
+
+    /// Spreads what is new: each worker that has connections of a firm that it concerns is woken
+    /// once, but for the one that spreads it.
+    pub(crate) fn spread(&self, bells: &Bells, news: &[News], by: u32) {
+        let workers = self.note(news);
+        for at in 0..bells.workers.len() {
+            if let Some(bell) = bells.workers.get(at) {
+                if workers & bit(at as u32) != 0 && !bell.news.swap(true, Ordering::SeqCst) {
+                    if at != by as usize {
+                        let _ = bell.waker.wake();
+                    }
+                }
+            }
+        }
+    }
+}

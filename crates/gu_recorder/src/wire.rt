@@ -1,0 +1,83 @@
+//! The stream of a connection, and the one function that writes to it.
+//!
+//! A `Wire` is read, known to a poll and closed by whoever has it. Bytes go out through `write`
+//! alone, in this file, which asks what they were made of.
+
+ghost use Rattle.std.specs.Prelude.{◌≡◌, ◌≤◌, ◌++◌, length, take, IfOk, MatchResult};
+ghost use Rattle.gu_recorder.specs.Waiting.{bytes_of, RestOn};
+
+use crate::made::{Made, sent_behind};
+use gu_connection::Closed;
+use gu_desk::{Job, Ticket};
+use std::io;
+use std::io::{ErrorKind, Read, Write};
+use std::net::{Shutdown, SocketAddr, TcpStream};
+use std::os::fd::{AsRawFd, RawFd};
+
+/// The stream of a connection, which doesn't wait.
+#[derive(Drop)]
+pub struct Wire {
+    stream: TcpStream,
+}
+
+impl Wire {
+    /// Takes the stream of a connection.
+    pub fn new(stream: TcpStream) -> io::Result<Wire> {
+        stream.set_nodelay(true)?;
+        stream.set_nonblocking(true)?;
+        Ok(Wire { stream })
+    }
+
+    /// The address of the peer.
+    pub fn peer_addr(&self) -> io::Result<SocketAddr> {
+        self.stream.peer_addr()
+    }
+
+    /// By what a poll knows it.
+    pub fn as_raw_fd(&self) -> RawFd {
+        self.stream.as_raw_fd()
+    }
+
+    /// Tells the peer that no more comes.
+    pub fn end_writing(&self) -> io::Result<()> {
+        self.stream.shutdown(Shutdown::Write)
+    }
+}
+
+impl Read for Wire {
+    fn read(&mut self, buf: &mut [u8]) -> io::Result<usize> {
+        let mut from: &TcpStream = &self.stream;
+        from.read(buf)
+    }
+}
+
+/// Writes what the peer takes of these bytes, and tells how many. Each history that they were made
+/// of is kept, as the ticket knows.
+pub(crate) fn write<J: Job>(
+    ticket: &Ticket<J>,
+    made: &Made,
+    sent: &mut Made,
+    wire: &Wire,
+    bytes: &[u8],
+) -> Result<usize, Closed>
+    requires bytes { bytes.now ≡ bytes_of made.now.bytes }
+    requires kept { RestOn made.now.bytes ticket.now.kept }
+    ensures count { IfOk result (λ n. n ≤ length bytes.now) }
+    ensures sent { MatchResult result
+        (λ n. sent.new.bytes ≡ sent.old.bytes ++ take n made.now.bytes)
+        (λ _. sent.new.bytes ≡ sent.old.bytes) }
+{
+    let _ = ticket;
+    let mut to: &TcpStream = &wire.stream;
+    match to.write(bytes) {
+        Ok(0) => Err(Closed),
+        Ok(count) => {
+            *sent = sent_behind(sent, made, count);
+            Ok(count)
+        }
+        Err(error) => match error.kind() {
+            ErrorKind::WouldBlock | ErrorKind::Interrupted => Ok(0),
+            _ => Err(Closed),
+        },
+    }
+}
