@@ -1,13 +1,14 @@
 //! The desk that workers share: calls, readings and copies under its lock, what settles and
 //! confirms without it, and the close.
 ghost use Rattle.std.specs.Prelude.{◌≡◌, ◌+◌, ◌<◌, ◌≤◌, ◌++◌};
-ghost use Rattle.std.specs.Prelude.{[], length, vec_len, IfOk, IfErr, OnOk, OnErr};
+ghost use Rattle.std.specs.Prelude.{ℕ, List, [], length, vec_len, IfOk, IfErr, OnOk, OnErr};
 ghost use Rattle.std.specs.Arc.{arc_value};
 ghost use Rattle.std.specs.List.{All, sum_by};
 ghost use Rattle.gu_base.specs.Limits.{most_entries, most_parts};
 ghost use Rattle.gu_book.specs.Seen.{stored};
 ghost use Rattle.gu_book.specs.Ids.{NoIdTwice};
 ghost use Rattle.gu_trace.specs.Reports.{entries_for, most_reports};
+ghost use Rattle.gu_trace.specs.News.{is_news, is_told};
 ghost use Rattle.gu_desk.specs.Begins.{BeginsWith};
 ghost use Rattle.gu_desk.specs.Passes.{IsOf, of_book};
 ghost use Rattle.gu_desk.specs.Runs.{IsRunOf, IsAnswerOf, IsReadingOf, IsToldOf, IsCallBy};
@@ -277,18 +278,24 @@ impl<J: Job> Desk<J> {
     }
 
     /// The firms that each entry above a number concerns, some of them maybe twice, read under the
-    /// lock, for which it may wait.
+    /// lock, for which it may wait. The journal's seat has then seen the history that stands there.
     ///
     /// # Errors
     ///
-    /// `Memory` where a growth was refused.
+    /// `Memory` where a growth was refused; the seat has seen the history then too.
     pub fn news_above<R: Wait>(
         &self,
         rt: &R,
         alloc: Global,
+        journal: &mut JournalSeat<J>,
         above: u32,
-    ) -> Result<Vec<News>, Memory> {
-        self.till.lock(rt).news_above(alloc, above)
+    ) -> Result<Vec<News>, Memory>
+        ensures value { IfOk result (λ v. (f : List ℕ) (n : ℕ) → is_told v.items f n
+            ≡ is_news J.opening.house.house journal.new.seen above f n) }
+        ensures seen { HasSeen J.opening journal.old.seen journal.new.seen }
+        ensures kept { journal.new.kept ≡ journal.old.kept }
+    {
+        self.till.lock(rt).news_above(alloc, journal, above)
     }
 
     /// Tells all seats and tickets that what the journal's seat has seen is durable, by this

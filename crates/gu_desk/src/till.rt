@@ -1,12 +1,13 @@
 //! What lies behind the lock of a desk: the book, its index, and the count of its records.
 ghost use Rattle.std.specs.Prelude.{◌≡◌, ◌+◌, ◌<◌, ◌≤◌, ◌++◌};
-ghost use Rattle.std.specs.Prelude.{length, map, IfOk, OnOk, OnErr, IsTrue};
+ghost use Rattle.std.specs.Prelude.{ℕ, List, length, map, IfOk, OnOk, OnErr, IsTrue};
 ghost use Rattle.std.specs.List.{All};
 ghost use Rattle.gu_base.specs.Limits.{most_parts};
 ghost use Rattle.gu_base.specs.Answers.{answer_to, after};
 ghost use Rattle.gu_book.specs.Front.{may_lack};
 ghost use Rattle.gu_book.specs.Ids.{NoIdTwice};
 ghost use Rattle.gu_trace.specs.Reports.{most_reports, entries_for, reports_for};
+ghost use Rattle.gu_trace.specs.News.{is_news, is_told};
 ghost use Rattle.gu_desk.specs.Begins.{BeginsWith};
 ghost use Rattle.gu_desk.specs.Runs.{IsRunOf, HasSeen};
 ghost use Rattle.gu_desk.specs.Shares.{gained};
@@ -171,16 +172,6 @@ impl<J: Job> Till<J> {
         (seat, told)
     }
 
-    /// The firms that each entry above a number concerns, some of them maybe twice.
-    ///
-    /// # Errors
-    ///
-    /// `Memory` where a growth was refused.
-    pub fn news_above(&self, alloc: Global, above: u32) -> Result<Vec<News>, Memory> {
-        let book = &self.book;
-        news_above(alloc, &book.house().house(), book.history(), above)
-    }
-
     /// Copies of the entries above those that are durable, for the journal's seat, which has then
     /// seen the history.
     ///
@@ -204,5 +195,30 @@ impl<J: Job> Till<J> {
     {
         journal.see(&self.count, &mut self.pass);
         copies_above(alloc, &self.book, journal.kept())
+    }
+
+    /// The firms that each entry above a number concerns, some of them maybe twice, in the history
+    /// that the journal's seat has then seen.
+    ///
+    /// # Errors
+    ///
+    /// `Memory` where a growth was refused; the seat has seen the history then too.
+    pub fn news_above(
+        &mut self,
+        alloc: Global,
+        journal: &mut JournalSeat<J>,
+        above: u32,
+    ) -> Result<Vec<News>, Memory>
+        ensures value { IfOk result (λ v. (f : List ℕ) (n : ℕ) → is_told v.items f n
+            ≡ is_news self.old.house.house self.old.history above f n) }
+        ensures same { self.new ≡ self.old }
+        ensures run { IsRunOf J.opening self.old }
+        ensures begins { BeginsWith self.old.history journal.old.seen }
+        ensures seen { journal.new.seen ≡ self.old.history }
+        ensures kept { journal.new.kept ≡ journal.old.kept }
+    {
+        let pass = &mut self.pass;
+        journal.see(&self.count, pass);
+        news_above(alloc, &self.book, above)
     }
 }

@@ -388,16 +388,16 @@ impl<'a, K: OpenJournal, J: Job, R: Wait + Clock, G: Gate> Keeper<'a, K, J, R, G
         let before = recorder.kept();
         recorder.record(worker.rt, worker.alloc, worker.desk, worker.tallies.board())?;
         if recorder.kept() > before {
-            self.spread(before);
+            self.spread(recorder, before);
         }
         words.renew(worker.rt, recorder)
     }
 
     /// Spreads what is kept now above an entry. Where memory lacks for that, it is heard with the
     /// next tick.
-    fn spread(&self, above: u32) {
+    fn spread(&self, recorder: &mut Recorder<K, J>, above: u32) {
         let worker = &self.worker;
-        if let Ok(news) = worker.desk.news_above(worker.rt, worker.alloc, above) {
+        if let Ok(news) = recorder.news_above(worker.rt, worker.alloc, worker.desk, above) {
             let bells = self.bells;
             bells.news.spread(bells, news.as_slice(), self.bell.at);
         }

@@ -91,7 +91,7 @@ impl NewsBoard {
         let mut workers = 0u64;
         for it in news {
             if let Some(newest) = self.firms.get(&it.firm) {
-                newest.number.fetch_max(it.number, Ordering::SeqCst);
+                newest.number.fetch_max(it.number.get(), Ordering::SeqCst);
                 workers |= newest.workers.load(Ordering::SeqCst);
             }
         }

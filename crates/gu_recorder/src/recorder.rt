@@ -1,14 +1,15 @@
 //! The journal and its seat, behind a lock of their own: whoever takes it records what the desk has
 //! answered.
 
-ghost use Rattle.std.specs.Prelude.{◌≡◌, length, OnOk};
+ghost use Rattle.std.specs.Prelude.{◌≡◌, ℕ, List, length, IfOk, OnOk};
 ghost use Rattle.gu_desk.specs.Begins.{BeginsWith};
+ghost use Rattle.gu_trace.specs.News.{is_news, is_told};
 
 use crate::journals::OpenJournal;
-use gu_base::Entry;
+use gu_base::{Entry, Memory};
 use gu_board::Board;
 use gu_command::{KeepError, RecordError};
-use gu_desk::{Desk, Job, JournalSeat, Ticket};
+use gu_desk::{Desk, Job, JournalSeat, News, Ticket};
 use gu_message::{SendingTime, is_moment};
 use jiff::Timestamp;
 use std::alloc::Global;
@@ -138,6 +139,27 @@ impl<K: OpenJournal, J: Job> Recorder<K, J> {
         ensures { result ≡ length self.now.kept }
     {
         self.seat.kept()
+    }
+
+    /// The firms that each entry above a number concerns, some of them maybe twice, in the history
+    /// that the seat has then seen. That begins with all that is durable.
+    ///
+    /// # Errors
+    ///
+    /// `Memory` where a growth was refused.
+    pub fn news_above<R: Wait>(
+        &mut self,
+        rt: &R,
+        alloc: Global,
+        desk: &Desk<J>,
+        above: u32,
+    ) -> Result<Vec<News>, Memory>
+        ensures value { IfOk result (λ v. (f : List ℕ) (n : ℕ) → is_told v.items f n
+            ≡ is_news J.opening.house.house self.new.seen above f n) }
+        ensures kept { self.new.kept ≡ self.old.kept }
+        ensures begins { BeginsWith self.new.seen self.new.kept }
+    {
+        desk.news_above(rt, alloc, &mut self.seat, above)
     }
 
     /// Records what the desk has answered since, counts it for an operator, and tells those that

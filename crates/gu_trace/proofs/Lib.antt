@@ -13,3 +13,4 @@ pub mod Indexed
 pub mod ByNumber
 pub mod RowPut
 pub mod Worked
+pub mod Newest

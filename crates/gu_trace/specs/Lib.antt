@@ -7,3 +7,4 @@ pub mod Index
 pub mod Between
 pub mod Trace
 pub mod Totals
+pub mod News

@@ -1,37 +1,59 @@
 //! Whom new entries concern.
+ghost use Rattle.std.specs.Prelude.{◌≡◌, ◌==◌, ◌&&◌, ◌||◌, ℕ, List, bytes_eq, IfOk, OnOk};
+ghost use Rattle.std.specs.List.{list_any};
+ghost use Rattle.gu_trace.specs.Concerned.{is_among};
+ghost use Rattle.gu_trace.specs.News.{is_news, is_told};
 
 use crate::concern::{Concerned, firms_concerned};
-use gu_base::{Entry, FirmId, Memory};
+use gu_base::{FirmId, Memory, Number, Part};
+use gu_book::Book;
 use std::alloc::Global;
 
 /// That an entry of this number concerns a firm.
 #[derive(Clone, Copy)]
 pub struct News {
     pub firm: FirmId,
-    pub number: u32,
+    pub number: Number,
+}
+
+/// Notes that the entry of this number concerns a firm.
+fn note(news: &mut Vec<News>, number: Number, firm: &FirmId) -> Result<(), Memory>
+    ensures { OnOk result ((f : List ℕ) (n : ℕ) → is_told news.new.items f n
+        ≡ (is_told news.old.items f n || ((number == n) && bytes_eq firm.now f))) }
+{
+    news.push(News {
+        firm: *firm,
+        number,
+    })?;
+    Ok(())
+}
+
+/// Notes that the entry of this number concerns each firm that a part is for.
+fn note_parts(news: &mut Vec<News>, number: Number, parts: &[Part]) -> Result<(), Memory>
+    ensures { OnOk result ((f : List ℕ) (n : ℕ) → is_told news.new.items f n
+        ≡ (is_told news.old.items f n
+        || ((number == n) && list_any (λ p. bytes_eq p.firm f) parts.now))) }
+{
+    for part in parts {
+        note(news, number, &part.firm)?;
+    }
+    Ok(())
 }
 
 /// Notes that the entry of this number concerns these firms.
-fn note(news: &mut Vec<News>, number: u32, concerned: &Concerned<'_>) -> Result<(), Memory> {
+fn note_all(news: &mut Vec<News>, number: Number, concerned: &Concerned<'_>) -> Result<(), Memory>
+    ensures { OnOk result ((f : List ℕ) (n : ℕ) → is_told news.new.items f n
+        ≡ (is_told news.old.items f n || ((number == n) && is_among f concerned.now))) }
+{
     match concerned {
         Concerned::Nobody => Ok(()),
         Concerned::Two(one, other) => {
-            news.push(News { firm: *one, number })?;
-            news.push(News {
-                firm: *other,
-                number,
-            })?;
-            Ok(())
+            note(news, number, one)?;
+            note(news, number, other)
         }
         Concerned::Parts(by, parts) => {
-            news.push(News { firm: *by, number })?;
-            for part in *parts {
-                news.push(News {
-                    firm: part.firm,
-                    number,
-                })?;
-            }
-            Ok(())
+            note(news, number, by)?;
+            note_parts(news, number, parts)
         }
     }
 }
@@ -42,19 +64,17 @@ fn note(news: &mut Vec<News>, number: u32, concerned: &Concerned<'_>) -> Result<
 /// # Errors
 ///
 /// `Memory` where a growth was refused.
-pub fn news_above(
-    alloc: Global,
-    house: &FirmId,
-    entries: &[Entry],
-    above: u32,
-) -> Result<Vec<News>, Memory> {
+pub fn news_above(alloc: Global, book: &Book, above: u32) -> Result<Vec<News>, Memory>
+    ensures { IfOk result (λ v. (f : List ℕ) (n : ℕ) → is_told v.items f n
+        ≡ is_news book.now.house.house book.now.history above f n) }
+{
+    let entries = book.history();
+    let house = book.house().house();
     let mut news = Vec::new(alloc);
-    let mut number = above;
-    let from = (above as usize).min(entries.len());
-    for entry in &entries[from..] {
-        number = number.saturating_add(1);
-        let concerned = firms_concerned(house, entries, &entry.firm, &entry.command);
-        note(&mut news, number, &concerned)?;
+    for place in above as usize..entries.len() {
+        let e = &entries[place];
+        let firms = firms_concerned(&house, entries, &e.firm, &e.command);
+        note_all(&mut news, Number::at_place(place), &firms)?;
     }
     Ok(news)
 }
