@@ -1,9 +1,9 @@
 -- Whom new entries concern: one entry, and one part, more.
-use Rattle.std.proofs.Common.{◌≡◌, ℕ, zero, suc, ◌+◌, Bool, true, false, ◌&&◌, ◌||◌, List, [], ◌∷◌, refl, ap, arith, drop, ◌∙◌}
+use Rattle.std.proofs.Common.{◌≡◌, ℕ, zero, suc, ◌+◌, Bool, true, false, ◌&&◌, ◌||◌, List, [], ◌∷◌, refl, ap, arith}
+use Rattle.std.proofs.Common.{drop, ◌∙◌}
 use Rattle.std.specs.Prelude.{Some, slice_get}
 use Rattle.gu_base.specs.History.{numbered_as, numbered_from}
 use Rattle.gu_base.specs.declared.entry.Entry.{Entry}
-use Rattle.gu_base.specs.declared.entry.Record.{Record}
 
 -- what one more part adds, if there is a number b
 pub one_more : (a b x y : Bool) → ((a || (b && x)) || (b && y)) ≡ (a || (b && (x || y)))

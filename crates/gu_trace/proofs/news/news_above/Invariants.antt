@@ -1,7 +1,4 @@
-use Rattle.std.proofs.Common.{◌≡◌, ◌==◌, ◌&&◌, ◌||◌, ℕ, List, drop}
-use Rattle.std.specs.List.{list_any}
-use Rattle.gu_base.specs.History.{records}
-use Rattle.gu_trace.specs.Concerns.{concerns}
+use Rattle.std.proofs.Common.{◌≡◌, ◌||◌, ℕ, List}
 use Rattle.gu_trace.specs.News.{is_told, is_news}
 use Rattle.gu_trace.proofs.news.news_above.Given as goal
 
