@@ -397,9 +397,17 @@ impl<'a, J: Job> Client<'a, J> {
         }
     }
 
-    /// A turn with this span, if it may have one. Where it has ended, what has come is thrown away.
-    #[tactic(auto, using(gu_connection::proofs::Seen::itself, gu_connection::proofs::Seen::still))]
-    pub(crate) fn turn<R: Wait + Clock, G: Gate>(
+    /// Throws away what has come, where it has ended.
+    fn drain(&mut self)
+        ensures { self.new.outbox ≡ self.old.outbox }
+    {
+        if self.ended {
+            let _ = read_away(&mut self.wire);
+        }
+    }
+
+    /// What the worker does in a turn with this span. What it makes stands in the connection then.
+    fn work<R: Wait + Clock, G: Gate>(
         &mut self,
         worker: &Worker<'a, J, R, G>,
         seat: Seat<J>,
@@ -408,15 +416,8 @@ impl<'a, J: Job> Client<'a, J> {
         span: Span,
     ) -> Seat<J>
         ensures later { BeginsWith result.seen seat.seen }
-        ensures turns { Turns self.old.outbox self.new.outbox result.seen }
+        ensures same { self.new.outbox ≡ self.old.outbox }
     {
-        self.give_back(worker.tallies);
-        if !self.may_turn() {
-            if self.ended {
-                let _ = read_away(&mut self.wire);
-            }
-            return seat;
-        }
         self.begin_turn(second);
         let (seat, turned) = worker.turn(
             seat,
@@ -434,7 +435,28 @@ impl<'a, J: Job> Client<'a, J> {
             Err(_) => self.ended = true,
         }
         self.note_end(worker.tallies);
-        let mut seat = seat;
+        seat
+    }
+
+    /// A turn with this span, if it may have one. Where it has ended, what has come is thrown away.
+    #[tactic(auto, using(gu_connection::proofs::Seen::itself, gu_connection::proofs::Seen::still))]
+    pub(crate) fn turn<R: Wait + Clock, G: Gate>(
+        &mut self,
+        worker: &Worker<'a, J, R, G>,
+        seat: Seat<J>,
+        piece: &mut [u8],
+        second: u64,
+        span: Span,
+    ) -> Seat<J>
+        ensures later { BeginsWith result.seen seat.seen }
+        ensures turns { Turns self.old.outbox self.new.outbox result.seen }
+    {
+        self.give_back(worker.tallies);
+        if !self.may_turn() {
+            self.drain();
+            return seat;
+        }
+        let mut seat = self.work(worker, seat, piece, second, span);
         self.hold(worker, &mut seat, second);
         seat
     }

@@ -299,7 +299,7 @@ impl<'a, J: Job> Clients<'a, J> {
         let Some(place) = self.news.place_of(&firm) else {
             return;
         };
-        while self.of_firms.len() <= place {
+        for _ in self.of_firms.len()..place.saturating_add(1) {
             if self.of_firms.push(0).is_err() {
                 return;
             }

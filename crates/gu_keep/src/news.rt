@@ -102,12 +102,13 @@ impl NewsBoard {
     /// once, but for the one that spreads it.
     pub(crate) fn spread(&self, bells: &Bells, news: &[News], by: u32) {
         let workers = self.note(news);
-        for at in 0..bells.workers.len() {
-            if let Some(bell) = bells.workers.get(at) {
-                if workers & bit(at as u32) != 0 && !bell.news.swap(true, Ordering::SeqCst) {
-                    if at != by as usize {
-                        let _ = bell.waker.wake();
-                    }
+        let Ok(count) = u32::try_from(bells.workers.len()) else {
+            return;
+        };
+        for at in 0..count {
+            if let Some(bell) = bells.workers.get(at as usize) {
+                if workers & bit(at) != 0 && !bell.news.swap(true, Ordering::SeqCst) && at != by {
+                    let _ = bell.waker.wake();
                 }
             }
         }

@@ -3,6 +3,7 @@
 
 ghost use Rattle.std.specs.Prelude.{◌≡◌, ℕ, List, length, IfOk, OnOk};
 ghost use Rattle.gu_desk.specs.Begins.{BeginsWith};
+ghost use Rattle.gu_desk.specs.Runs.{HasSeen};
 ghost use Rattle.gu_trace.specs.News.{is_news, is_told};
 
 use crate::journals::OpenJournal;
@@ -142,7 +143,8 @@ impl<K: OpenJournal, J: Job> Recorder<K, J> {
     }
 
     /// The firms that each entry above a number concerns, some of them maybe twice, in the history
-    /// that the seat has then seen. That begins with all that is durable.
+    /// that the seat has then seen. That begins with what it had seen, and so behind a record with
+    /// all that is kept.
     ///
     /// # Errors
     ///
@@ -157,7 +159,7 @@ impl<K: OpenJournal, J: Job> Recorder<K, J> {
         ensures value { IfOk result (λ v. (f : List ℕ) (n : ℕ) → is_told v.items f n
             ≡ is_news J.opening.house.house self.new.seen above f n) }
         ensures kept { self.new.kept ≡ self.old.kept }
-        ensures begins { BeginsWith self.new.seen self.new.kept }
+        ensures seen { HasSeen J.opening self.old.seen self.new.seen }
     {
         desk.news_above(rt, alloc, &mut self.seat, above)
     }
