@@ -31,7 +31,7 @@ TRADES = 10  # of the full day
 
 # Sentences of docs/profile.md, letter by letter but for its stars and its line ends.
 LOGON = "The first message has to be a Logon that is understood, with MsgSeqNum (34) 1, from a firm of the house file."
-NUMBERS = "On each connection numbers begin at 1, both ways."
+NUMBERS = "Numbers are reset at each Logon: they begin at 1, both ways"
 GARBLED = "A garbled frame is no message: the service asks for the gap that it leaves."
 EMPTY = "A value has one or more bytes, none of them SOH; it may hold `=`."
 MEND = "Mend the message and send it with the next number: the rejected one is used up."
