@@ -3,6 +3,7 @@ pub mod ByNumber
 pub mod Within
 pub mod Refused
 pub mod Keeps
+pub mod PartsKept
 pub mod Charging
 mod Dealing
 pub mod ChangesKept

@@ -28,6 +28,7 @@ ghost use Rattle.gu_book.specs.Kept.{IsAccepted, IsAcceptedBy, with_entry};
 ghost use Rattle.gu_book.specs.Found.{IsNamedIn, IsNothing, IsStandingIn};
 ghost use Rattle.gu_book.specs.Found.{IsUndoneBy, IsUndoneIn, LiesThere};
 ghost use Rattle.gu_book.specs.Live.{entry_of_change};
+ghost use Rattle.gu_book.specs.Parts.{parts_kept};
 ghost use Rattle.gu_book.specs.Seen.{stored};
 ghost use Rattle.gu_book.specs.TreeRows.{is_live_trade, tree_rows};
 ghost use Rattle.gu_book.specs.Undo.{IsUndoIn};
@@ -63,17 +64,20 @@ pub struct Book {
     consents: Consents,
     lookups: Lookups,
     visits: u64,
+    parts: u64,
 }
 
 impl Model for Book {
     ghost use Rattle.gu_book.specs.Seen.{BookView};
     ghost use Rattle.gu_book.specs.Kept.{IsBook};
+    ghost use Rattle.gu_book.specs.Parts.{ArePartsOf};
 
     ghost Value = { BookView };
 
     ghost view = { λ b. record { house = b.house; history = b.entries.items; visits = b.visits } };
 
-    ghost invariant = { λ b. IsBook b.house b.entries.items b.consents b.lookups b.state };
+    ghost invariant = { λ b. IsBook b.house b.entries.items b.consents b.lookups b.state
+        × ArePartsOf b.entries.items b.parts };
 }
 
 impl Book {
@@ -88,6 +92,7 @@ impl Book {
             consents: Consents::new(alloc),
             lookups: Lookups::new(alloc),
             visits: 0,
+            parts: 0,
         }
     }
 
@@ -253,6 +258,14 @@ impl Book {
         self.visits
     }
 
+    /// How many parts the Splits of the history have, those of reversed ones too: each takes memory
+    /// for as long as the book is there.
+    pub fn parts(&self) -> u64
+        ensures { result ≡ parts_kept self.now.history }
+    {
+        self.parts
+    }
+
     /// Says how many nodes the call visited.
     fn note(&mut self, visits: u64)
         ensures { self.new ≡ record self.old { visits = visits } }
@@ -388,6 +401,7 @@ impl Book {
         };
         self.state.add(alloc, &addition)?;
         push_change(&mut self.entries, &mut self.lookups.ids, made, hash, parts);
+        self.parts += visits::parts_in(made.command);
         Ok(())
     }
 

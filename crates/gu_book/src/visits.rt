@@ -5,7 +5,7 @@ ghost use Rattle.gu_book.specs.Visits.{parts_in, nodes_made};
 use gu_base::Command;
 
 /// The parts of a Split.
-fn parts_in(command: &Command) -> u64
+pub(crate) fn parts_in(command: &Command) -> u64
     ensures value { result ≡ parts_in command.now }
     ensures fits { result < 2 ^ 63 }
 {

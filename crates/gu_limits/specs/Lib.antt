@@ -1,3 +1,4 @@
 pub mod Admission
 pub mod Pace
+pub mod Size
 pub mod Turn

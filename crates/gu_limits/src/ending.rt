@@ -8,8 +8,16 @@ ghost use Rattle.gu_limits.specs.Admission.{text_of, most_text};
 pub enum Ending {
     /// The firm has as many entries as it may have.
     Entries,
+    /// The firm has as many parts of Splits as it may have.
+    Parts,
     /// What the book still takes is the house's.
     Reserve,
+    /// What is left of the memory for the book is the house's, or the next entry couldn't be kept.
+    Memory,
+    /// The book has all of the memory that is for it.
+    NoMemory,
+    /// Too much waits for the firm.
+    Held,
     /// The firm has as many connections as it may have.
     Connections,
     /// The firm has said nothing for too long.
@@ -18,9 +26,13 @@ pub enum Ending {
 
 impl Ending {
     /// All of them.
-    pub const ALL: [Ending; 4] = [
+    pub const ALL: [Ending; 8] = [
         Ending::Entries,
+        Ending::Parts,
         Ending::Reserve,
+        Ending::Memory,
+        Ending::NoMemory,
+        Ending::Held,
         Ending::Connections,
         Ending::Silence,
     ];
@@ -32,7 +44,11 @@ impl Ending {
     {
         match self {
             Ending::Entries => "too many entries",
+            Ending::Parts => "too many parts",
             Ending::Reserve => "entries left are the house's",
+            Ending::Memory => "memory left is the house's",
+            Ending::NoMemory => "no memory left",
+            Ending::Held => "too much waits",
             Ending::Connections => "too many connections",
             Ending::Silence => "no heartbeat",
         }

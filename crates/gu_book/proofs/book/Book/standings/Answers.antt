@@ -5,7 +5,7 @@ pub returns-clause-read : goal.returns-clause-read
 returns-clause-read c =
     let t = c.self.inside.house in
     let h = c.self.inside.entries.items in
-    let kept = c.self.invariant.kept in
+    let kept = c.self.invariant.0.kept in
     rw (← c.self.view_is)
     (c.first_standing-read.ensures.first t (live h) (rises_later 0 1 (live h) (omega arith) (live_rises h))
-    (legal_from_replay t (live h) kept.replayed) c.self.invariant.state.filed c.self.invariant.state.dealt)
+    (legal_from_replay t (live h) kept.replayed) c.self.invariant.0.state.filed c.self.invariant.0.state.dealt)
