@@ -3,14 +3,15 @@
 
 use crate::cell::{Cell, ENDED, Work, add, add_at, load, zeros};
 use crate::log::Log;
+use crate::tallies::parts_in;
+use crate::times::Taken;
 use gu_base::{AllocId, Answer, Entry, FirmId, Memory, Number};
 use gu_book::Book;
 use gu_command::MOST_WORKERS;
+use gu_limits::Size;
 use gu_log::{Event, Field, Key, Value};
 use gu_parties::House;
-use gu_status::{
-    BOUNDS, BUCKETS, FirmEntries, Part, Pulses, REASONS, Snapshot, Syncs, mark_passed, stuck,
-};
+use gu_status::{FirmEntries, Part, Pulses, REASONS, Snapshot, Syncs, mark_passed, stuck};
 use indexmap::IndexMap;
 use jiff::Timestamp;
 use std::alloc::{AllocError, Global};
@@ -21,7 +22,7 @@ use std::time::Clock;
 /// For how many seconds a part may stand still before `/health` says so.
 const MOST_STILL: u64 = 5;
 
-/// From how many microseconds on a sync is slow.
+/// From how many microseconds on the disk is slow with a group.
 const SLOW_SYNC: u64 = 100_000;
 
 /// What is counted.
@@ -45,15 +46,20 @@ pub struct Board {
     /// start it is held by whoever reads the journal, and each piece that was read is a new second.
     journal: AtomicU64,
     entries: AtomicU64,
+    /// The parts of the book, and the bytes of its journal.
+    parts: AtomicU64,
+    journal_bytes: AtomicU64,
+    /// Whether memory lacks for the next entry.
+    lacks: AtomicBool,
     open: AtomicU64,
     taken: AtomicU64,
     waiting: AtomicU64,
     accepted: AtomicU64,
     repeated: AtomicU64,
     refused: Vec<AtomicU64>,
-    within: Vec<AtomicU64>,
-    syncs: AtomicU64,
-    sync_micros: AtomicU64,
+    /// How long the disk took for groups, and behind that the other machines.
+    disk: Taken,
+    machines: Taken,
     synced: AtomicU64,
     slow: AtomicU64,
     logons_refused: AtomicU64,
@@ -129,15 +135,17 @@ impl Board {
             acceptor: AtomicU64::new(ENDED),
             journal: AtomicU64::new(1),
             entries: AtomicU64::new(0),
+            parts: AtomicU64::new(0),
+            journal_bytes: AtomicU64::new(0),
+            lacks: AtomicBool::new(false),
             open: AtomicU64::new(0),
             taken: AtomicU64::new(0),
             waiting: AtomicU64::new(0),
             accepted: AtomicU64::new(0),
             repeated: AtomicU64::new(0),
             refused: zeros(alloc, REASONS)?,
-            within: zeros(alloc, BOUNDS.len())?,
-            syncs: AtomicU64::new(0),
-            sync_micros: AtomicU64::new(0),
+            disk: Taken::new(alloc)?,
+            machines: Taken::new(alloc)?,
             synced: AtomicU64::new(0),
             slow: AtomicU64::new(0),
             logons_refused: AtomicU64::new(0),
@@ -181,6 +189,22 @@ impl Board {
             }
         }
         self.entries.store(count, Ordering::SeqCst);
+        self.parts.store(book.parts(), Ordering::SeqCst);
+    }
+
+    /// How many bytes the journal has.
+    pub fn has_written(&self, bytes: u64) {
+        self.journal_bytes.store(bytes, Ordering::SeqCst);
+    }
+
+    /// Notes whether memory lacks for the next entry.
+    pub fn note_lack(&self, lacks: bool) {
+        self.lacks.store(lacks, Ordering::SeqCst);
+    }
+
+    /// Whether memory lacks for the next entry.
+    pub fn lacks_memory(&self) -> bool {
+        self.lacks.load(Ordering::SeqCst)
     }
 
     /// How many entries the book has.
@@ -254,9 +278,12 @@ impl Board {
         let count = group.len() as u64;
         self.accepted.fetch_add(count, Ordering::SeqCst);
         let before = self.entries.fetch_add(count, Ordering::SeqCst);
+        let mut parts = 0u64;
         for entry in group {
             self.count_entry(rt, &entry.firm);
+            parts = parts.saturating_add(parts_in(&entry.command));
         }
+        self.parts.fetch_add(parts, Ordering::SeqCst);
         self.warn_of_book(rt, before, before.saturating_add(count));
     }
 
@@ -272,23 +299,18 @@ impl Board {
         }
     }
 
-    /// A group of so many entries took so many microseconds.
-    pub fn recorded<R: Wait + Clock>(&self, rt: &R, count: u64, micros: u64) {
-        // Whoever reads goes the other way, so that no bucket is seen above a wider one.
-        self.syncs.fetch_add(1, Ordering::SeqCst);
-        for i in (0..BOUNDS.len()).rev() {
-            if micros <= BOUNDS[i] {
-                if let Some(within) = self.within.get(i) {
-                    add(within);
-                }
-            }
+    /// A group of so many entries took the disk so many microseconds, and behind that the other
+    /// machines so many, if there are such.
+    pub fn recorded<R: Wait + Clock>(&self, rt: &R, count: u64, disk: u64, machines: Option<u64>) {
+        self.disk.note(disk);
+        if let Some(micros) = machines {
+            self.machines.note(micros);
         }
-        self.sync_micros.fetch_add(micros, Ordering::SeqCst);
         self.synced.store(load(&self.second), Ordering::SeqCst);
-        if micros > SLOW_SYNC {
+        if disk > SLOW_SYNC {
             add(&self.slow);
             let fields = [
-                number(Key::Milliseconds, micros / 1000),
+                number(Key::Milliseconds, disk / 1000),
                 number(Key::Entries, count),
             ];
             self.say(rt, Event::SlowSync, &fields);
@@ -470,24 +492,25 @@ impl Board {
 
     /// How the syncs stand.
     fn snapshot_syncs(&self) -> Syncs {
-        let mut within = [0u64; BUCKETS];
-        for i in 0..within.len() {
-            if let Some(count) = self.within.get(i) {
-                within[i] = load(count);
-            }
-        }
         let second = load(&self.second);
         let oldest_seconds = match load(&self.journal) {
             0 => 0,
             since => second.saturating_sub(since.saturating_sub(1)),
         };
         Syncs {
-            within,
-            count: load(&self.syncs),
-            micros: load(&self.sync_micros),
+            disk: self.disk.times(),
+            machines: self.machines.times(),
             slow: load(&self.slow),
             oldest_seconds,
             idle_seconds: second.saturating_sub(load(&self.synced)),
+        }
+    }
+
+    /// How large the book is.
+    fn size(&self) -> Size {
+        Size {
+            entries: load(&self.entries),
+            parts: load(&self.parts),
         }
     }
 
@@ -513,6 +536,9 @@ impl Board {
             stuck: self.unhealthy(),
             entries: small(load(&self.entries)),
             most_entries: Number::MAX,
+            book_bytes: self.size().memory(),
+            journal_bytes: load(&self.journal_bytes),
+            lacks_memory: self.lacks_memory(),
             firms,
             connections: load(&self.open),
             accepted: load(&self.accepted),

@@ -14,6 +14,7 @@ mod pace;
 mod saying;
 mod tallies;
 mod telling;
+mod times;
 mod version;
 
 pub use board::{Board, number, text};
@@ -21,6 +22,6 @@ pub use cell::Work;
 pub use log::{Log, Written};
 pub use pace::Pace;
 pub use saying::{say_lack, say_started};
-pub use tallies::Tallies;
+pub use tallies::{Tallies, parts_in};
 pub use telling::Teller;
 pub use version::{VERSION, commit};

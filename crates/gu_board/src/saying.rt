@@ -28,6 +28,11 @@ fn word<'a>(key: Key, word: &'a Option<String>) -> Field<'a> {
     }
 }
 
+/// A field that says whether an option was given.
+fn switch(key: Key, is_on: bool) -> Field<'static> {
+    text(key, if is_on { b"on" } else { b"no" })
+}
+
 /// A field with a place where figures are told, or that there is none.
 fn place(key: Key, at: &Option<StatusAt>) -> Field<'_> {
     match at {
@@ -71,13 +76,18 @@ pub fn say_started<R: Wait + Clock + Files>(
         ),
         number(Key::Most, u64::from(Number::MAX)),
         limit(Key::MostEntries, limits.most_entries),
+        limit(Key::MostParts, limits.most_parts),
         limit(Key::Reserve, limits.reserve),
+        limit(Key::Memory, limits.memory),
         limit(Key::Rate, limits.rate),
         limit(Key::PerFirm, limits.per_firm),
+        limit(Key::Held, limits.held),
         word(Key::Replicate, &options.replica),
         place(Key::StatusAt, &options.status),
         place(Key::MoreStatusAt, &options.more_status),
-        text(Key::LogCalls, if options.log_calls { b"on" } else { b"no" }),
+        switch(Key::LogCalls, options.log_calls),
+        word(Key::Book, &options.book.name),
+        switch(Key::AskBook, options.book.is_asked),
     ];
     board.say(rt, Event::Started, &fields);
 }

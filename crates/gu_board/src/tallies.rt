@@ -5,11 +5,13 @@
 //! stands in the way of may be one too few.
 
 use crate::board::Board;
+use crate::cell::zeros;
 use crate::pace::{FirmPace, Pace};
 use crate::saying::say_closed;
-use gu_base::{AllocId, Answer, FirmId, Memory};
+use gu_base::{AllocId, Answer, Command, FirmId, Memory};
 use gu_book::Book;
-use gu_limits::{Ending, Limits};
+use gu_command::MOST_WORKERS;
+use gu_limits::{Ending, Limits, Size};
 use indexmap::IndexMap;
 use std::alloc::{AllocError, Global};
 use std::sync::atomic::{AtomicBool, AtomicU64, Ordering};
@@ -20,7 +22,11 @@ use std::time::{Clock, Instant};
 #[derive(Drop)]
 struct Closures {
     entries: AtomicU64,
+    parts: AtomicU64,
     reserve: AtomicU64,
+    memory: AtomicU64,
+    no_memory: AtomicU64,
+    held: AtomicU64,
     connections: AtomicU64,
     silence: AtomicU64,
 }
@@ -30,7 +36,11 @@ impl Closures {
     fn new() -> Closures {
         Closures {
             entries: AtomicU64::new(0),
+            parts: AtomicU64::new(0),
             reserve: AtomicU64::new(0),
+            memory: AtomicU64::new(0),
+            no_memory: AtomicU64::new(0),
+            held: AtomicU64::new(0),
             connections: AtomicU64::new(0),
             silence: AtomicU64::new(0),
         }
@@ -40,18 +50,65 @@ impl Closures {
     fn of(&self, ending: Ending) -> &AtomicU64 {
         match ending {
             Ending::Entries => &self.entries,
+            Ending::Parts => &self.parts,
             Ending::Reserve => &self.reserve,
+            Ending::Memory => &self.memory,
+            Ending::NoMemory => &self.no_memory,
+            Ending::Held => &self.held,
             Ending::Connections => &self.connections,
             Ending::Silence => &self.silence,
         }
     }
 }
 
+/// Entries, and calls that aren't answered yet, and the parts of the Splits among them.
+#[derive(Drop)]
+struct Amount {
+    entries: AtomicU64,
+    parts: AtomicU64,
+}
+
+impl Amount {
+    /// None yet.
+    fn new() -> Amount {
+        Amount {
+            entries: AtomicU64::new(0),
+            parts: AtomicU64::new(0),
+        }
+    }
+
+    /// Counts a call with so many parts, and tells what there was before.
+    fn add(&self, parts: u64) -> Size {
+        Size {
+            entries: self.entries.fetch_add(1, Ordering::SeqCst),
+            parts: self.parts.fetch_add(parts, Ordering::SeqCst),
+        }
+    }
+
+    /// Takes a call with so many parts back.
+    fn take_back(&self, parts: u64) {
+        self.entries.fetch_sub(1, Ordering::SeqCst);
+        self.parts.fetch_sub(parts, Ordering::SeqCst);
+    }
+}
+
+/// How many parts a command has: those of a Split.
+pub fn parts_in(command: &Command) -> u64 {
+    match command {
+        Command::Split { parts, .. } => parts.as_slice().len() as u64,
+        _ => 0,
+    }
+}
+
 /// What is counted of a firm.
 #[derive(Drop)]
 struct Tally {
-    /// Its entries, and its calls that aren't answered yet.
-    entries: AtomicU64,
+    amount: Amount,
+    /// How many bytes wait for it, or are kept to be sent again.
+    held: AtomicU64,
+    /// How many of them a connection has at each worker, of that which has most there, as it was
+    /// when the worker last looked.
+    heaviest: Vec<AtomicU64>,
     /// Its connections that have logged on.
     open: AtomicU64,
     pace: FirmPace,
@@ -60,13 +117,15 @@ struct Tally {
 
 impl Tally {
     /// Nothing counted yet.
-    fn new() -> Tally {
-        Tally {
-            entries: AtomicU64::new(0),
+    fn new(alloc: Global) -> Result<Tally, Memory> {
+        Ok(Tally {
+            amount: Amount::new(),
+            held: AtomicU64::new(0),
+            heaviest: zeros(alloc, MOST_WORKERS as usize)?,
             open: AtomicU64::new(0),
             pace: FirmPace::new(),
             closures: Closures::new(),
-        }
+        })
     }
 }
 
@@ -76,10 +135,14 @@ pub struct Tallies {
     limits: Limits,
     house: FirmId,
     firms: IndexMap<FirmId, Tally>,
-    /// The entries of the book, and the calls that aren't answered yet.
-    entries: AtomicU64,
+    /// What is counted of the whole book.
+    book: Amount,
+    /// The house's connections that were closed.
+    own: Closures,
     /// Whether a connection was closed since that was last told.
     news: AtomicBool,
+    /// Whether more may wait for some firm than may.
+    over: AtomicBool,
     /// When the server began: seconds are counted from then.
     start: Option<Instant>,
     /// What is counted for an operator, in `keep`.
@@ -92,7 +155,7 @@ fn tallies_of(alloc: Global, book: &Book) -> Result<IndexMap<FirmId, Tally>, Mem
     let mut firms = IndexMap::new(alloc);
     for place in 0..house.firm_count() {
         if let Some(firm) = house.firm_at(place) {
-            if firms.insert(firm, Tally::new()).is_err() {
+            if firms.insert(firm, Tally::new(alloc)?).is_err() {
                 return Err(AllocError);
             }
         }
@@ -107,8 +170,10 @@ impl Tallies {
             limits: Limits::NONE,
             house,
             firms: IndexMap::new(alloc),
-            entries: AtomicU64::new(0),
+            book: Amount::new(),
+            own: Closures::new(),
             news: AtomicBool::new(false),
+            over: AtomicBool::new(false),
             start: None,
             board: None,
         }
@@ -126,14 +191,16 @@ impl Tallies {
             limits,
             house: book.house().house(),
             firms: tallies_of(alloc, book)?,
-            entries: AtomicU64::new(0),
+            book: Amount::new(),
+            own: Closures::new(),
             news: AtomicBool::new(false),
+            over: AtomicBool::new(false),
             start: Some(start),
             board,
         };
         if tallies.limits.counts_entries() {
             for entry in book.history() {
-                tallies.count(&entry.firm);
+                tallies.count(&entry.firm, parts_in(&entry.command));
             }
         }
         Ok(tallies)
@@ -152,30 +219,32 @@ impl Tallies {
         self.start
     }
 
-    /// Counts an entry of a firm, and tells how many it had and how many the book had. None of the
-    /// house's are told.
-    fn count(&self, firm: &FirmId) -> (u64, u64) {
-        let all = self.entries.fetch_add(1, Ordering::SeqCst);
+    /// Counts a call of a firm with so many parts, and tells what it had and what the book had.
+    /// None of the house's are told.
+    fn count(&self, firm: &FirmId, parts: u64) -> (Size, Size) {
+        let all = self.book.add(parts);
         match self.firms.get(firm) {
-            Some(tally) => (tally.entries.fetch_add(1, Ordering::SeqCst), all),
-            None => (0, all),
+            Some(tally) => (tally.amount.add(parts), all),
+            None => (Size::NONE, all),
         }
     }
 
-    /// Takes an entry of a firm back.
-    fn take_back(&self, firm: &FirmId) {
-        self.entries.fetch_sub(1, Ordering::SeqCst);
+    /// Takes a call of a firm with so many parts back.
+    fn take_back(&self, firm: &FirmId, parts: u64) {
+        self.book.take_back(parts);
         if let Some(tally) = self.firms.get(firm) {
-            tally.entries.fetch_sub(1, Ordering::SeqCst);
+            tally.amount.take_back(parts);
         }
     }
 
     /// Notes that a connection of a firm is closed for this, so that it is told.
     pub fn note(&self, firm: &FirmId, ending: Ending) {
-        if let Some(tally) = self.firms.get(firm) {
-            tally.closures.of(ending).fetch_add(1, Ordering::SeqCst);
-            self.news.store(true, Ordering::SeqCst);
-        }
+        let closures = match self.firms.get(firm) {
+            Some(tally) => &tally.closures,
+            None => &self.own,
+        };
+        closures.of(ending).fetch_add(1, Ordering::SeqCst);
+        self.news.store(true, Ordering::SeqCst);
     }
 
     /// The nanoseconds since the start; 0 where the clock can't be read.
@@ -224,14 +293,18 @@ impl Tallies {
         }
     }
 
-    /// Counts a call of a firm that is to be made; or tells why it isn't, and then it doesn't
-    /// count.
-    pub fn begin_call(&self, firm: &FirmId) -> Result<(), Ending> {
+    /// Counts a call of a firm with so many parts that is to be made; or tells why it isn't, and
+    /// then it doesn't count. A firm's isn't made where memory lacks for the next entry.
+    pub fn begin_call(&self, firm: &FirmId, parts: u64) -> Result<(), Ending> {
+        let is_house = *firm == self.house;
+        if !is_house && self.lacks_memory() {
+            self.note(firm, Ending::Memory);
+            return Err(Ending::Memory);
+        }
         if self.limits.counts_entries() {
-            let (mine, all) = self.count(firm);
-            let is_house = *firm == self.house;
-            if let Some(ending) = self.limits.excess_of_call(is_house, mine, all) {
-                self.take_back(firm);
+            let (mine, all) = self.count(firm, parts);
+            if let Some(ending) = self.limits.excess_of_call(is_house, mine, all, parts) {
+                self.take_back(firm, parts);
                 self.note(firm, ending);
                 return Err(ending);
             }
@@ -239,11 +312,71 @@ impl Tallies {
         Ok(())
     }
 
-    /// Takes the count of a call back, if it made no entry.
-    pub fn end_call(&self, firm: &FirmId, is_entry: bool) {
+    /// Takes the count of a call with so many parts back, if it made no entry.
+    pub fn end_call(&self, firm: &FirmId, parts: u64, is_entry: bool) {
         if !is_entry && self.limits.counts_entries() {
-            self.take_back(firm);
+            self.take_back(firm, parts);
         }
+    }
+
+    /// Whether memory lacks for the next entry.
+    fn lacks_memory(&self) -> bool {
+        match self.board() {
+            Some(board) => board.lacks_memory(),
+            None => false,
+        }
+    }
+
+    /// Counts that so many bytes wait for a firm on a connection, or are kept there, where so many
+    /// did before.
+    pub fn hold(&self, firm: &FirmId, before: u64, after: u64) {
+        let Some(tally) = self.firms.get(firm) else {
+            return;
+        };
+        if before < after {
+            tally.held.fetch_add(after - before, Ordering::SeqCst);
+        } else {
+            tally.held.fetch_sub(before - after, Ordering::SeqCst);
+        }
+        if self.holds_too_much(firm, tally) {
+            self.over.store(true, Ordering::SeqCst);
+        }
+    }
+
+    /// Whether more waits for a firm than may.
+    fn holds_too_much(&self, firm: &FirmId, tally: &Tally) -> bool {
+        let held = tally.held.load(Ordering::SeqCst);
+        self.limits.holds_too_much(*firm == self.house, held)
+    }
+
+    /// A firm for which more waits than may, if there is one.
+    pub fn first_over(&self) -> Option<FirmId> {
+        if !self.over.swap(false, Ordering::SeqCst) {
+            return None;
+        }
+        for (firm, tally) in self.firms.iter() {
+            if self.holds_too_much(firm, tally) {
+                self.over.store(true, Ordering::SeqCst);
+                return Some(*firm);
+            }
+        }
+        None
+    }
+
+    /// Notes that of a worker's connections of a firm the one that has most holds so many bytes:
+    /// whether none of another worker held more when that one looked.
+    pub fn is_heaviest(&self, firm: &FirmId, worker: u32, most: u64) -> bool {
+        let Some(tally) = self.firms.get(firm) else {
+            return false;
+        };
+        if let Some(mine) = tally.heaviest.get(worker as usize) {
+            mine.store(most, Ordering::SeqCst);
+        }
+        let most = most.max(1);
+        tally
+            .heaviest
+            .iter()
+            .all(|other| other.load(Ordering::SeqCst) <= most)
     }
 
     /// Notes how a call was answered, for an operator.
@@ -302,11 +435,17 @@ impl Tallies {
             return;
         }
         for (firm, tally) in self.firms.iter() {
-            for ending in Ending::ALL {
-                let count = tally.closures.of(ending).swap(0, Ordering::SeqCst);
-                if count > 0 {
-                    say_closed(rt, self.board(), firm, ending, count);
-                }
+            self.tell_closures(rt, firm, &tally.closures);
+        }
+        self.tell_closures(rt, &self.house, &self.own);
+    }
+
+    /// Says that connections of a firm were closed, and why.
+    fn tell_closures<R: Wait + Clock>(&self, rt: &R, firm: &FirmId, closures: &Closures) {
+        for ending in Ending::ALL {
+            let count = closures.of(ending).swap(0, Ordering::SeqCst);
+            if count > 0 {
+                say_closed(rt, self.board(), firm, ending, count);
             }
         }
     }

@@ -21,13 +21,15 @@ use Rattle.gu_command.specs.Lines.{port_in, workers_in, connections_in, told_in,
 use Rattle.gu_command.specs.Lines.{workers_meant}
 use Rattle.gu_command.specs.Lines.{connections_meant, IsLine, IsLineOf, AsksForBatch, AsksForTrace, AsksToServe}
 use Rattle.gu_command.specs.Lines.{AsksToKeep}
-use Rattle.gu_command.specs.Options.{flag_meant, limit_meant}
-use Rattle.gu_command.specs.Options.{AreLimitsOf, AreOptionsOf, AreMeant, IfMeant, no_options}
+use Rattle.gu_command.specs.Options.{flag_meant, limit_meant, limit_or, usual_meant}
+use Rattle.gu_command.specs.Options.{AreLimitsOf, AreOptionsOf, AreMeant, no_options}
+use Rattle.gu_command.specs.Naming.{name_meant, asking_meant, no_book, IsBookOf}
 use Rattle.gu_command.specs.Limits.{most_port, up_to}
 use Rattle.gu_command.specs.Places.{are_places, is_place, told_among, ArePlaces, IsPlaceIf}
 use Rattle.gu_command.specs.declared.options.StatusAt.{StatusAt}
 use Rattle.gu_command.specs.declared.options.StatusAt.TheVariants.{Port, Socket}
 use Rattle.gu_limits.specs.declared.limits.Limits.{Limits}
+use Rattle.gu_command.specs.declared.naming.NamedBook.{NamedBook}
 use Rattle.gu_command.specs.declared.options.KeepOptions.{KeepOptions}
 use Rattle.gu_command.specs.declared.line.Line.{Line}
 use Rattle.gu_command.specs.declared.line.Line.TheVariants.{Batch, Trace, Serve, Keep}
@@ -222,11 +224,16 @@ serve_taken path word h k =
 
 -- ---- keep
 
+abbrev naming_ids : List Text
+naming_ids = codes "NAME" ∷ codes "ASK_BOOK" ∷ []
+
 abbrev telling_ids : List Text
-telling_ids = codes "LOG_CALLS" ∷ []
+telling_ids = codes "LOG_CALLS" ∷ naming_ids
 
 abbrev limit_ids : List Text
-limit_ids = codes "ENTRIES" ∷ codes "RESERVED" ∷ codes "CALLS" ∷ codes "CONNECTIONS" ∷ telling_ids
+limit_ids =
+    codes "ENTRIES" ∷ codes "PARTS" ∷ codes "RESERVED" ∷ codes "MEMORY" ∷ codes "CALLS" ∷ codes "CONNECTIONS"
+    ∷ codes "HELD" ∷ telling_ids
 
 abbrev option_ids : List Text
 option_ids = codes "PATH" ∷ limit_ids
@@ -236,7 +243,8 @@ keep_ids = codes "HOUSE" ∷ codes "JOURNAL" ∷ codes "PORT" ∷ codes "WORKERS
 
 -- a flag that isn't given is `false`
 abbrev none_given : List (Option Text)
-none_given = None ∷ None ∷ None ∷ None ∷ None ∷ Some (codes "false") ∷ []
+none_given = None ∷ None ∷ None ∷ None ∷ None ∷ None ∷ None ∷ None ∷ Some (codes "false") ∷ None
+    ∷ Some (codes "false") ∷ []
 
 keep_given : (path file word : Text) → is_plain path ≡ true → is_plain file ≡ true → is_plain word ≡ true
     → given_for keep_ids (subcommand_of program (keep_line path file word))
@@ -248,13 +256,24 @@ keep_given path file word h f k =
 
 -- nothing is given for the options
 options_given : (given : Text → Option Text) → given (codes "PATH") ≡ None → given (codes "ENTRIES") ≡ None
-    → given (codes "RESERVED") ≡ None → given (codes "CALLS") ≡ None → given (codes "CONNECTIONS") ≡ None
-    → given (codes "LOG_CALLS") ≡ Some (codes "false") → AreOptionsOf given [] no_options
-options_given given path entries reserved calls connections log_calls = (
+    → given (codes "PARTS") ≡ None → given (codes "RESERVED") ≡ None → given (codes "MEMORY") ≡ None
+    → given (codes "CALLS") ≡ None → given (codes "CONNECTIONS") ≡ None → given (codes "HELD") ≡ None
+    → given (codes "LOG_CALLS") ≡ Some (codes "false") → given (codes "NAME") ≡ None
+    → given (codes "ASK_BOOK") ≡ Some (codes "false") → AreOptionsOf given [] no_options
+options_given given path entries parts reserved memory calls connections held log_calls name asking = (
   path,
-  (ap limit_meant entries, ap limit_meant reserved, ap limit_meant calls, ap limit_meant connections),
+  (
+    ap limit_meant entries,
+    ap limit_meant parts,
+    ap limit_meant reserved,
+    ap limit_meant memory,
+    ap limit_meant calls,
+    ap (usual_meant 8) connections,
+    ap (usual_meant 64) held,
+  ),
   (refl, refl),
   ap flag_meant log_calls,
+  (ap name_meant name, ap₂ asking_meant name asking),
 )
 
 -- nor behind `--status`
@@ -272,9 +291,12 @@ pub keep_met : (path file word : Text) → is_plain path ≡ true → is_plain f
     × AreOptionsOf (word_for (keep_line path file word)) (told_in (keep_line path file word)) no_options
 keep_met path file word h f k =
     let e = keep_given path file word h f k in
-    let each = codes "CONNECTIONS" ∷ telling_ids in
+    let waiting = codes "HELD" ∷ telling_ids in
+    let each = codes "CONNECTIONS" ∷ waiting in
     let calls = codes "CALLS" ∷ each in
-    let reserved = codes "RESERVED" ∷ calls in
+    let memories = codes "MEMORY" ∷ calls in
+    let reserved = codes "RESERVED" ∷ memories in
+    let splits = codes "PARTS" ∷ reserved in
     let counts = codes "COUNT" ∷ option_ids in
     let numbers = codes "WORKERS" ∷ counts in
     let ports = codes "PORT" ∷ numbers in
@@ -284,10 +306,16 @@ keep_met path file word h f k =
     let connections = rest_given (codes "WORKERS") counts _ _ _ _ workers in
     let replica = rest_given (codes "COUNT") option_ids _ _ _ _ connections in
     let entries = rest_given (codes "PATH") limit_ids _ _ _ _ replica in
-    let reserve = rest_given (codes "ENTRIES") reserved _ _ _ _ entries in
-    let rate = rest_given (codes "RESERVED") calls _ _ _ _ reserve in
+    let parts = rest_given (codes "ENTRIES") splits _ _ _ _ entries in
+    let reserve = rest_given (codes "PARTS") reserved _ _ _ _ parts in
+    let memory = rest_given (codes "RESERVED") memories _ _ _ _ reserve in
+    let rate = rest_given (codes "MEMORY") calls _ _ _ _ memory in
     let per_firm = rest_given (codes "CALLS") each _ _ _ _ rate in
-    let log_calls = rest_given (codes "CONNECTIONS") telling_ids _ _ _ _ per_firm in (
+    let held = rest_given (codes "CONNECTIONS") waiting _ _ _ _ per_firm in
+    let log_calls = rest_given (codes "HELD") telling_ids _ _ _ _ held in
+    let asked = codes "ASK_BOOK" ∷ [] in
+    let name = rest_given (codes "LOG_CALLS") naming_ids _ _ _ _ log_calls in
+    let asking = rest_given (codes "NAME") asked _ _ _ _ name in (
       command_given keep_ids _ _ _ e,
       first_given (codes "HOUSE") (codes "JOURNAL" ∷ ports) _ _ _ _ e,
       first_given (codes "JOURNAL") ports _ _ _ _ journal,
@@ -298,11 +326,16 @@ keep_met path file word h f k =
           (sym (none_told path file word h f k))
           (options_given (word_for (keep_line path file word))
           (first_given (codes "PATH") limit_ids _ _ _ _ replica)
-          (first_given (codes "ENTRIES") reserved _ _ _ _ entries)
-          (first_given (codes "RESERVED") calls _ _ _ _ reserve)
+          (first_given (codes "ENTRIES") splits _ _ _ _ entries)
+          (first_given (codes "PARTS") reserved _ _ _ _ parts)
+          (first_given (codes "RESERVED") memories _ _ _ _ reserve)
+          (first_given (codes "MEMORY") calls _ _ _ _ memory)
           (first_given (codes "CALLS") each _ _ _ _ rate)
-          (first_given (codes "CONNECTIONS") telling_ids _ _ _ _ per_firm)
-          (first_given (codes "LOG_CALLS") [] _ _ _ _ log_calls)),
+          (first_given (codes "CONNECTIONS") waiting _ _ _ _ per_firm)
+          (first_given (codes "HELD") telling_ids _ _ _ _ held)
+          (first_given (codes "LOG_CALLS") naming_ids _ _ _ _ log_calls)
+          (first_given (codes "NAME") asked _ _ _ _ name)
+          (first_given (codes "ASK_BOOK") [] _ _ _ _ asking)),
     )
 
 pub keep_taken : (path file word : Text) → is_plain path ≡ true → is_plain file ≡ true → is_plain word ≡ true
@@ -382,12 +415,19 @@ same_meaning f g s t options same told k = (
   same (codes "PATH") ∙ k.0,
   (
     ap limit_meant (same (codes "ENTRIES")) ∙ k.1.0,
-    ap limit_meant (same (codes "RESERVED")) ∙ k.1.1,
-    ap limit_meant (same (codes "CALLS")) ∙ k.1.2,
-    ap limit_meant (same (codes "CONNECTIONS")) ∙ k.1.3,
+    ap limit_meant (same (codes "PARTS")) ∙ k.1.1,
+    ap limit_meant (same (codes "RESERVED")) ∙ k.1.2,
+    ap limit_meant (same (codes "MEMORY")) ∙ k.1.3,
+    ap limit_meant (same (codes "CALLS")) ∙ k.1.4,
+    ap (usual_meant 8) (same (codes "CONNECTIONS")) ∙ k.1.5,
+    ap (usual_meant 64) (same (codes "HELD")) ∙ k.1.6,
   ),
   subst (λ (x : List Text). ArePlaces x options.status options.more_status) (sym told) k.2,
   ap flag_meant (same (codes "LOG_CALLS")) ∙ k.3,
+  (
+    ap name_meant (same (codes "NAME")) ∙ k.4.0,
+    ap₂ asking_meant (same (codes "NAME")) (same (codes "ASK_BOOK")) ∙ k.4.1,
+  ),
 )
 
 -- a word that means a place is one
@@ -403,12 +443,19 @@ places_so (v ∷ w ∷ []) first second k =
     ap₂ (λ (a b : Bool). a && b) (place_so v first k.0) (place_so w second k.1)
 places_so (v ∷ w ∷ x ∷ ws) first second k = absurd k
 
+-- a limit that is known, or the usual one, was meant
+limit_there : (usual : ℕ) (limit : Option (Option ℕ)) (known : Option ℕ)
+    → option_map (limit_or usual) limit ≡ Some known → is_some limit ≡ true
+limit_there usual None known e = absurd cc
+limit_there usual (Some limit) known e = refl
+
 -- what holds if the options mean some holds where they do
 meant_so : (given : Text → Option Text) (told : List Text) (options : KeepOptions) (P : Type 0)
     → AreOptionsOf given told options → AreMeant given told P → P
 meant_so given told options P k p =
     p (places_so told options.status options.more_status k.2) (ap is_some k.1.0) (ap is_some k.1.1) (ap is_some k.1.2)
-    (ap is_some k.1.3)
+    (ap is_some k.1.3) (ap is_some k.1.4) (limit_there 8 _ options.limits.per_firm k.1.5)
+    (limit_there 64 _ options.limits.held k.1.6) (ap is_some k.4.0) (ap is_some k.4.1)
 
 -- of which command the line is, and what was given for its arguments
 pub line_found : (words : List Text) (command : Text) (given : Text → Option Text) (told : List Text) (l : Line)
@@ -441,6 +488,12 @@ same_in_some a b e = ap (λ (o : Option Text). unwrap_or o []) e
 
 same_number : (a b : Option ℕ) → Some a ≡ Some b → a ≡ b
 same_number a b e = ap (λ (o : Option (Option ℕ)). unwrap_or o None) e
+
+same_text : (a b : Option Text) → Some a ≡ Some b → a ≡ b
+same_text a b e = ap (λ (o : Option (Option Text)). unwrap_or o None) e
+
+same_flag : (a b : Bool) → Some a ≡ Some b → a ≡ b
+same_flag a b e = ap (λ (o : Option Bool). unwrap_or o false) e
 
 same_count : (a b : ℕ) → Some a ≡ Some b → a ≡ b
 same_count a b e = ap (λ (o : Option ℕ). unwrap_or o 0) e
@@ -511,13 +564,26 @@ none_found f (Some s) e = absurd cc
 same_limits : (l m : Limits) (given : Text → Option Text) → AreLimitsOf given l → AreLimitsOf given m → l ≡ m
 same_limits l m given k n =
     let entries = same_number _ _ (sym k.0 ∙ n.0) in
-    let reserve = same_number _ _ (sym k.1 ∙ n.1) in
-    let rate = same_number _ _ (sym k.2 ∙ n.2) in
-    let per_firm = same_number _ _ (sym k.3 ∙ n.3) in
+    let parts = same_number _ _ (sym k.1 ∙ n.1) in
+    let reserve = same_number _ _ (sym k.2 ∙ n.2) in
+    let memory = same_number _ _ (sym k.3 ∙ n.3) in
+    let rate = same_number _ _ (sym k.4 ∙ n.4) in
+    let per_firm = same_number _ _ (sym k.5 ∙ n.5) in
+    let held = same_number _ _ (sym k.6 ∙ n.6) in
     ap (λ x. record l { most_entries = x }) entries
-    ∙ ap (λ x. record l { most_entries = m.most_entries; reserve = x }) reserve
-    ∙ ap (λ x. record m { rate = x; per_firm = l.per_firm }) rate
-    ∙ ap (λ x. record m { per_firm = x }) per_firm
+    ∙ ap (λ x. record l { most_entries = m.most_entries; most_parts = x }) parts
+    ∙ ap (λ x. record l { most_entries = m.most_entries; most_parts = m.most_parts; reserve = x }) reserve
+    ∙ ap (λ x. record m { memory = x; rate = l.rate; per_firm = l.per_firm; held = l.held }) memory
+    ∙ ap (λ x. record m { rate = x; per_firm = l.per_firm; held = l.held }) rate
+    ∙ ap (λ x. record m { per_firm = x; held = l.held }) per_firm ∙ ap (λ x. record m { held = x }) held
+
+-- a book that means the same words as none is none
+no_book_given : (book : NamedBook) (given : Text → Option Text) → IsBookOf given book → IsBookOf given no_book
+    → book ≡ no_book
+no_book_given book given k n =
+    let name = none_found _ book.name (same_text _ _ (sym k.0 ∙ n.0)) in
+    let asked = same_flag _ _ (sym k.1 ∙ n.1) in
+    ap (λ x. record book { name = x }) name ∙ ap (λ x. record no_book { is_asked = x }) asked
 
 -- and so are the options, where none was given
 no_options_given : (options : KeepOptions) (given : Text → Option Text) (told : List Text) → told ≡ []
@@ -528,12 +594,18 @@ no_options_given options given told t k n =
     let places : ArePlaces [] options.status options.more_status =
     subst (λ (x : List Text). ArePlaces x options.status options.more_status) t k.2 in
     let log_calls = sym k.3 ∙ n.3 in
+    let book = no_book_given options.book given k.4 n.4 in
     ap (λ x. record options { replica = x }) replica
     ∙ ap (λ x. record options { replica = None; limits = x }) limits
-    ∙ ap (λ x. record no_options { status = x; more_status = options.more_status; log_calls = options.log_calls })
-    places.0
-    ∙ ap (λ x. record no_options { more_status = x; log_calls = options.log_calls }) places.1
-    ∙ ap (λ x. record no_options { log_calls = x }) log_calls
+    ∙ ap (λ x. record no_options {
+      status = x;
+      more_status = options.more_status;
+      log_calls = options.log_calls;
+      book = options.book;
+    }) places.0
+    ∙ ap (λ x. record no_options { more_status = x; log_calls = options.log_calls; book = options.book }) places.1
+    ∙ ap (λ x. record no_options { log_calls = x; book = options.book }) log_calls
+    ∙ ap (λ x. record no_options { book = x }) book
 
 pub asks_keep : (command path file : Text) (given : Text → Option Text) (told : List Text) (port : ℕ) (l : Line)
     → command ≡ codes "keep"

@@ -28,7 +28,7 @@ pub enum ServiceError {
     Serve(ServeError),
 }
 
-/// Why entries weren't recorded. The journal takes no more then.
+/// Why entries weren't recorded. The journal takes no more then, but for `Memory`.
 #[derive(Clone, Copy, Debug, Error)]
 pub enum RecordError {
     /// Memory ran out.

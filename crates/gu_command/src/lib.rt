@@ -7,11 +7,13 @@
 mod errors;
 mod fault;
 mod line;
+mod naming;
 mod options;
 mod order;
 
 pub use errors::{KeepError, RecordError, ServeError, ServiceError};
 pub use fault::{Fault, fault_at};
 pub use line::{Line, MOST_WORKERS, command_line, unread_words};
+pub use naming::NamedBook;
 pub use options::{KeepOptions, StatusAt};
 pub use order::Order;

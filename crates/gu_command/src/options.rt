@@ -5,14 +5,17 @@ ghost use Rattle.clap.specs.Words.{App, first_value, found_of, rule_of};
 ghost use Rattle.gu_command.specs.Faults.{no_memory};
 ghost use Rattle.gu_command.specs.Lines.{Makes, is_line_fault};
 ghost use Rattle.gu_command.specs.Options.{replica_rule, most_entries_rule, reserve_rule};
+ghost use Rattle.gu_command.specs.Options.{most_parts_rule, memory_rule, held_rule};
 ghost use Rattle.gu_command.specs.Options.{rate_rule, per_firm_rule, status_rule, log_calls_rule};
 ghost use Rattle.gu_command.specs.Options.{limited, telling, optioned, flag_meant, limit_meant};
+ghost use Rattle.gu_command.specs.Options.{limit_or};
 ghost use Rattle.gu_command.specs.Options.{AreLimitsOf, AreOptionsOf, AreMeant, IfMeant};
 ghost use Rattle.gu_command.specs.Places.{has_slash, is_place, are_places, told_among};
 ghost use Rattle.gu_command.specs.Places.{IsPlace, ArePlaces};
 
 use crate::fault::Fault;
 use crate::line::{MOST_PORT, number_fault, option, up_to, with_option};
+use crate::naming::{NamedBook, book_of, with_naming};
 use clap::{Arg, ArgAction, ArgMatches, Command};
 use gu_base::Number;
 use gu_batch::RunError;
@@ -34,14 +37,16 @@ pub enum StatusAt {
 pub struct KeepOptions {
     /// `--replicate PATH`: the socket of whoever puts the journal on other machines.
     pub replica: Option<String>,
-    /// `--most-entries ENTRIES`, `--reserve RESERVED`, `--rate CALLS`, `--per-firm CONNECTIONS`:
-    /// what firms may have.
+    /// `--most-entries ENTRIES`, `--most-parts PARTS`, `--reserve RESERVED`, `--memory MEMORY`,
+    /// `--rate CALLS`, `--per-firm CONNECTIONS`, `--held HELD`: what firms may have.
     pub limits: Limits,
     /// `--status PORT|PATH`, which may stand twice.
     pub status: Option<StatusAt>,
     pub more_status: Option<StatusAt>,
     /// `--log-calls`: whether each call is told on standard error.
     pub log_calls: bool,
+    /// `--book NAME`, `--ask-book`: which book this is.
+    pub book: NamedBook,
 }
 
 /// The names by which `ArgMatches` gives the options.
@@ -49,11 +54,23 @@ const REPLICA: &str = "PATH";
 
 const MOST_ENTRIES: &str = "ENTRIES";
 
+const MOST_PARTS: &str = "PARTS";
+
 const RESERVE: &str = "RESERVED";
+
+const MEMORY: &str = "MEMORY";
 
 const RATE: &str = "CALLS";
 
 const PER_FIRM: &str = "CONNECTIONS";
+
+const HELD: &str = "HELD";
+
+/// How many connections of a firm may have logged on where the line doesn't say.
+const USUAL_PER_FIRM: u32 = 8;
+
+/// How many megabytes may wait for a firm where the line doesn't say.
+const USUAL_HELD: u32 = 64;
 
 const STATUS: &str = "STATUS";
 
@@ -87,6 +104,20 @@ fn most_entries_option<'a>(alloc: Global) -> Arg<'a>
     )
 }
 
+/// The option `--most-parts`.
+fn most_parts_option<'a>(alloc: Global) -> Arg<'a>
+    ensures rule { rule_of result ≡ most_parts_rule }
+    ensures local { result.global ≡ false }
+{
+    option(
+        alloc,
+        MOST_PARTS,
+        "most-parts",
+        "How many parts the splits of a firm have together, 1 to 1000000; the house has no limit",
+        false,
+    )
+}
+
 /// The option `--reserve`.
 fn reserve_option<'a>(alloc: Global) -> Arg<'a>
     ensures rule { rule_of result ≡ reserve_rule }
@@ -97,6 +128,20 @@ fn reserve_option<'a>(alloc: Global) -> Arg<'a>
         RESERVE,
         "reserve",
         "How many of the book's 1000000 entries are the house's alone, 1 to 1000000",
+        false,
+    )
+}
+
+/// The option `--memory`.
+fn memory_option<'a>(alloc: Global) -> Arg<'a>
+    ensures rule { rule_of result ≡ memory_rule }
+    ensures local { result.global ≡ false }
+{
+    option(
+        alloc,
+        MEMORY,
+        "memory",
+        "How many megabytes the book may take, 1 to 1000000; a tenth of them is the house's alone",
         false,
     )
 }
@@ -124,7 +169,23 @@ fn per_firm_option<'a>(alloc: Global) -> Arg<'a>
         alloc,
         PER_FIRM,
         "per-firm",
-        "How many connections a firm may have, 1 to 1000000; the house has no limit",
+        "How many connections a firm may have, 1 to 1000000, 8 if not given; the house has no \
+         limit",
+        false,
+    )
+}
+
+/// The option `--held`.
+fn held_option<'a>(alloc: Global) -> Arg<'a>
+    ensures rule { rule_of result ≡ held_rule }
+    ensures local { result.global ≡ false }
+{
+    option(
+        alloc,
+        HELD,
+        "held",
+        "How many megabytes may wait for a firm, 1 to 1000000, 64 if not given; the house has no \
+         limit",
         false,
     )
 }
@@ -134,9 +195,12 @@ fn with_limits<'a>(alloc: Global, command: Result<Command<'a>, Fault>) -> Result
     ensures { (app : App) → Makes app command.entry → Makes (limited app) result }
 {
     let command = with_option(command, most_entries_option(alloc));
+    let command = with_option(command, most_parts_option(alloc));
     let command = with_option(command, reserve_option(alloc));
+    let command = with_option(command, memory_option(alloc));
     let command = with_option(command, rate_option(alloc));
-    with_option(command, per_firm_option(alloc))
+    let command = with_option(command, per_firm_option(alloc));
+    with_option(command, held_option(alloc))
 }
 
 /// The option `--status`.
@@ -184,7 +248,8 @@ pub(crate) fn with_options<'a>(
 {
     let command = with_option(command, replica_option(alloc));
     let command = with_limits(alloc, command);
-    with_telling(alloc, command)
+    let command = with_telling(alloc, command);
+    with_naming(alloc, command)
 }
 
 /// The word behind `--replicate`, in memory of its own, and none where there is no such word.
@@ -255,7 +320,7 @@ fn places_of(alloc: Global, words: &[&str]) -> Result<(Option<StatusAt>, Option<
 }
 
 /// Whether a flag was given.
-fn is_set(word: Option<&str>) -> bool
+pub(crate) fn is_set(word: Option<&str>) -> bool
     ensures { result ≡ flag_meant (option_map (λ w. w.now) word.entry) }
 {
     match word {
@@ -280,6 +345,16 @@ fn limit_of(alloc: Global, word: Option<&str>, option: &str) -> Result<Option<u3
     }
 }
 
+/// A limit, or the usual one where there is none.
+fn limit_or(limit: Option<u32>, usual: u32) -> Option<u32>
+    ensures { result ≡ limit_or usual limit }
+{
+    match limit {
+        Some(limit) => Some(limit),
+        None => Some(usual),
+    }
+}
+
 /// What the words behind `keep` let firms have.
 fn limits_of(alloc: Global, given: &ArgMatches<'_>) -> Result<Limits, Fault>
     ensures ok { IfOk result (AreLimitsOf (first_value (found_of given.now))) }
@@ -291,14 +366,20 @@ fn limits_of(alloc: Global, given: &ArgMatches<'_>) -> Result<Limits, Fault>
         given.get_str(MOST_ENTRIES),
         "--most-entries <ENTRIES>",
     )?;
+    let most_parts = limit_of(alloc, given.get_str(MOST_PARTS), "--most-parts <PARTS>")?;
     let reserve = limit_of(alloc, given.get_str(RESERVE), "--reserve <RESERVED>")?;
+    let memory = limit_of(alloc, given.get_str(MEMORY), "--memory <MEMORY>")?;
     let rate = limit_of(alloc, given.get_str(RATE), "--rate <CALLS>")?;
     let per_firm = limit_of(alloc, given.get_str(PER_FIRM), "--per-firm <CONNECTIONS>")?;
+    let held = limit_of(alloc, given.get_str(HELD), "--held <HELD>")?;
     Ok(Limits {
         most_entries,
+        most_parts,
         reserve,
+        memory,
         rate,
-        per_firm,
+        per_firm: limit_or(per_firm, USUAL_PER_FIRM),
+        held: limit_or(held, USUAL_HELD),
     })
 }
 
@@ -313,11 +394,13 @@ pub(crate) fn options_of(alloc: Global, given: &ArgMatches<'_>) -> Result<KeepOp
     let limits = limits_of(alloc, given)?;
     let replica = word_of(alloc, given.get_str(REPLICA))?;
     let (status, more_status) = places_of(alloc, given.get_strs(STATUS).unwrap_or(&[]))?;
+    let book = book_of(alloc, given)?;
     Ok(KeepOptions {
         replica,
         limits,
         status,
         more_status,
         log_calls: is_set(given.get_str(LOG_CALLS)),
+        book,
     })
 }

@@ -118,11 +118,16 @@ pub enum Key {
     Percent,
     /// The options by the same words.
     MostEntries,
+    MostParts,
     Reserve,
+    Memory,
     Rate,
     PerFirm,
+    Held,
     Replicate,
     LogCalls,
+    Book,
+    AskBook,
     /// Where figures and pages are told: a port, or a socket; and where else.
     StatusAt,
     MoreStatusAt,
@@ -135,6 +140,8 @@ pub enum Key {
     /// How long it took.
     Seconds,
     Milliseconds,
+    /// The entry above which a firm's reports begin.
+    Above,
     /// The number of a connection: they are counted from 1 on.
     Connection,
     /// How many connections.
@@ -187,11 +194,16 @@ impl Key {
             Key::Most => "most",
             Key::Percent => "percent",
             Key::MostEntries => "most_entries",
+            Key::MostParts => "most_parts",
             Key::Reserve => "reserve",
+            Key::Memory => "memory",
             Key::Rate => "rate",
             Key::PerFirm => "per_firm",
+            Key::Held => "held",
             Key::Replicate => "replicate",
             Key::LogCalls => "log_calls",
+            Key::Book => "book",
+            Key::AskBook => "ask_book",
             Key::StatusAt => "status_at",
             Key::MoreStatusAt => "more_status_at",
             Key::Bytes => "bytes",
@@ -200,6 +212,7 @@ impl Key {
             Key::AnswersLeft => "answers_left",
             Key::Seconds => "seconds",
             Key::Milliseconds => "ms",
+            Key::Above => "above",
             Key::Connection => "connection",
             Key::Connections => "connections",
             Key::Peer => "peer",

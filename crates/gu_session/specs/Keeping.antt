@@ -11,6 +11,11 @@ pub record Kept : Type 0 where
   pub sent : List ℕ
   pub body : List ℕ
 
+-- how many bytes the bodies of messages have together
+abbrev pub bytes_of : List Kept → ℕ
+bytes_of [] = 0
+bytes_of (m ∷ ms) = length m.body + bytes_of ms
+
 -- the message of this header and body
 abbrev pub kept_with : KeptHeader → List ℕ → Kept
 kept_with e body = record { kind = e.kind; number = e.number; sent = e.sent; body = body }

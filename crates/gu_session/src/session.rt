@@ -8,6 +8,7 @@ ghost use Rattle.gu_message.specs.AllocationReport.{ShowsFewParts};
 ghost use Rattle.gu_message.specs.Heading.{heading_of};
 ghost use Rattle.gu_message.specs.Meaning.{meaning_of};
 ghost use Rattle.gu_message.specs.declared.inbound.Inbound.TheVariants.{Heartbeat};
+ghost use Rattle.gu_session.specs.Keeping.{bytes_of};
 ghost use Rattle.gu_session.specs.Limits.{past_last};
 ghost use Rattle.gu_session.specs.Steps as StepEvent;
 ghost use Rattle.gu_session.specs.Steps.{fits as fits_of, call_of as call_of_table, opening, tells};
@@ -231,6 +232,14 @@ impl<'a> Session<'a> {
         ensures { result ≡ self.now.link.next }
     {
         self.link.next
+    }
+
+    /// How many bytes the bodies have of the messages that are kept to be sent again. Takes no
+    /// memory.
+    pub fn kept_bytes(&self) -> usize
+        ensures { result ≡ bytes_of self.now.kept }
+    {
+        self.kept.size()
     }
 
     /// Takes a message.

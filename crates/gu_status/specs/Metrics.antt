@@ -5,7 +5,7 @@ use Rattle.gu_status.specs.Samples.{Text, family, decimal_line, millionths, samp
 use Rattle.gu_status.specs.Samples.{single}
 use Rattle.gu_status.specs.declared.snapshot.FirmEntries.{FirmEntries}
 use Rattle.gu_status.specs.declared.snapshot.Snapshot.{Snapshot}
-use Rattle.gu_status.specs.declared.snapshot.Syncs.{Syncs}
+use Rattle.gu_status.specs.declared.snapshot.Times.{Times}
 
 -- 1 where it holds, else 0
 abbrev pub one_if : Bool → ℕ
@@ -41,6 +41,17 @@ book_text s =
     ++ single (codes "allocd_entries_limit") (codes "gauge")
     (codes "The most entries that the book takes.") s.most_entries
     ++ fullness_text s
+
+-- how much room it takes in memory, and its journal
+unfoldable pub room_text : Snapshot → Text
+room_text s =
+    single (codes "allocd_book_bytes") (codes "gauge")
+    (codes "About how many bytes of memory the book takes.") s.book_bytes
+    ++ single (codes "allocd_journal_bytes") (codes "gauge")
+    (codes "Bytes of the journal.") s.journal_bytes
+    ++ single (codes "allocd_lacks_memory") (codes "gauge")
+    (codes "1 where memory lacks, so that no calls of firms are made, else 0.")
+    (one_if s.lacks_memory)
 
 -- the entries of each firm
 unfoldable pub firm_text : FirmEntries → Text
@@ -78,39 +89,45 @@ calls_text s =
     (codes "Calls that were refused, by the refusal's number.")
     ++ refusals_text 1 s.refused
 
--- how many syncs took no longer than a bound
-abbrev pub bucket : Text → ℕ → Text
-bucket bound n = labelled (codes "allocd_sync_seconds_bucket{le=\"") bound n
+-- how often something took no longer than the bounds up to 50 ms
+unfoldable pub short_buckets : Text → Times → Text
+short_buckets name s = labelled name (codes "0.001") (slice_index s.within 0)
+    ++ labelled name (codes "0.002") (slice_index s.within 1)
+    ++ labelled name (codes "0.005") (slice_index s.within 2)
+    ++ labelled name (codes "0.01") (slice_index s.within 3)
+    ++ labelled name (codes "0.02") (slice_index s.within 4)
+    ++ labelled name (codes "0.05") (slice_index s.within 5)
 
--- the bounds up to 50 ms
-unfoldable pub short_buckets : Syncs → Text
-short_buckets s = bucket (codes "0.001") (slice_index s.within 0)
-    ++ bucket (codes "0.002") (slice_index s.within 1)
-    ++ bucket (codes "0.005") (slice_index s.within 2)
-    ++ bucket (codes "0.01") (slice_index s.within 3)
-    ++ bucket (codes "0.02") (slice_index s.within 4)
-    ++ bucket (codes "0.05") (slice_index s.within 5)
+-- and those from 100 ms on
+unfoldable pub long_buckets : Text → Times → Text
+long_buckets name s = labelled name (codes "0.1") (slice_index s.within 6)
+    ++ labelled name (codes "0.2") (slice_index s.within 7)
+    ++ labelled name (codes "0.5") (slice_index s.within 8)
+    ++ labelled name (codes "1") (slice_index s.within 9)
+    ++ labelled name (codes "10") (slice_index s.within 10)
+    ++ labelled name (codes "+Inf") s.count
 
--- the bounds from 100 ms on
-unfoldable pub long_buckets : Syncs → Text
-long_buckets s = bucket (codes "0.1") (slice_index s.within 6)
-    ++ bucket (codes "0.2") (slice_index s.within 7)
-    ++ bucket (codes "0.5") (slice_index s.within 8)
-    ++ bucket (codes "1") (slice_index s.within 9)
-    ++ bucket (codes "10") (slice_index s.within 10)
-    ++ bucket (codes "+Inf") s.count
-
--- how long they took together, and how many they were
-unfoldable pub totals_text : Syncs → Text
-totals_text s = codes "allocd_sync_seconds_sum" ++ millionths s.micros
-    ++ codes "allocd_sync_seconds_count" ++ decimal_line s.count
+-- how long all took together, and how many they were
+unfoldable pub totals_text : Text → Text → Times → Text
+totals_text sum count s = sum ++ millionths s.micros ++ count ++ decimal_line s.count
 
 -- how long syncs took
-unfoldable pub times_text : Syncs → Text
+unfoldable pub times_text : Times → Text
 times_text s =
     family (codes "allocd_sync_seconds") (codes "histogram")
-    (codes "How long a group was on its way to the disk.")
-    ++ short_buckets s ++ long_buckets s ++ totals_text s
+    (codes "How long the disk took for a group.")
+    ++ short_buckets (codes "allocd_sync_seconds_bucket{le=\"") s
+    ++ long_buckets (codes "allocd_sync_seconds_bucket{le=\"") s
+    ++ totals_text (codes "allocd_sync_seconds_sum") (codes "allocd_sync_seconds_count") s
+
+-- how long the other machines' answers took
+unfoldable pub answers_text : Times → Text
+answers_text s =
+    family (codes "allocd_replicate_seconds") (codes "histogram")
+    (codes "How long a group that was on the disk waited for the other machines.")
+    ++ short_buckets (codes "allocd_replicate_seconds_bucket{le=\"") s
+    ++ long_buckets (codes "allocd_replicate_seconds_bucket{le=\"") s
+    ++ totals_text (codes "allocd_replicate_seconds_sum") (codes "allocd_replicate_seconds_count") s
 
 -- what waits, and what was lost
 unfoldable pub rest_text : Snapshot → Text
@@ -138,7 +155,7 @@ start_text began = single (codes "process_start_time_seconds") (codes "gauge")
 unfoldable pub delays_text : Snapshot → Text
 delays_text s =
     single (codes "allocd_slow_syncs_total") (codes "counter")
-    (codes "Groups that were longer than 100 ms on their way to the disk.") s.syncs.slow
+    (codes "Groups for which the disk took longer than 100 ms.") s.syncs.slow
     ++ single (codes "allocd_oldest_group_seconds") (codes "gauge")
     (codes "Seconds for which a group is on its way to the disk; 0 where none is.")
     s.syncs.oldest_seconds
@@ -151,6 +168,6 @@ server_text s = build_text ++ start_text s.began ++ delays_text s
 
 -- all figures
 unfoldable pub metrics_text : Snapshot → Text
-metrics_text s = state_text s ++ book_text s ++ firm_entries_text s ++ calls_text s
-    ++ times_text s.syncs
+metrics_text s = state_text s ++ book_text s ++ room_text s ++ firm_entries_text s ++ calls_text s
+    ++ times_text s.syncs.disk ++ answers_text s.syncs.machines
     ++ rest_text s ++ server_text s

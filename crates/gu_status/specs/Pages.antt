@@ -44,15 +44,16 @@ abbrev pub health_text : Option Part → Text
 health_text None = codes "healthy\n"
 health_text (Some p) = part_text p ++ codes " stands still\n"
 
--- whether connections are taken
-abbrev pub ready_text : Bool → Text
-ready_text true = codes "ready\n"
-ready_text false = codes "not ready\n"
+-- whether connections are taken, and where they are, whether memory lacks
+abbrev pub ready_text : Bool → Bool → Text
+ready_text true true = codes "ready\nmemory lacks: no calls of firms are made\n"
+ready_text true false = codes "ready\n"
+ready_text false lacks = codes "not ready\n"
 
 -- what a page says
 abbrev pub page_text : Asked → Snapshot → Text
 page_text Figures s = metrics_text s
-page_text Readiness s = ready_text s.is_ready
+page_text Readiness s = ready_text s.is_ready s.lacks_memory
 page_text Health s = health_text s.stuck
 page_text NoPage s = codes "/metrics, /ready and /health are the pages\n"
 page_text NoMethod s = codes "only GET and HEAD are answered\n"

@@ -1,16 +1,17 @@
 //! The text of a snapshot.
 
 ghost use Rattle.std.specs.Prelude.{◌≡◌, ◌++◌, codes, is_none, OnOk, IfOk};
-ghost use Rattle.gu_status.specs.Samples.{single};
-ghost use Rattle.gu_status.specs.Metrics.{book_text, bucket, build_text, calls_text, firm_text};
+ghost use Rattle.gu_status.specs.Samples.{labelled, single};
+ghost use Rattle.gu_status.specs.Metrics.{answers_text, book_text, build_text, calls_text};
+ghost use Rattle.gu_status.specs.Metrics.{firm_text};
 ghost use Rattle.gu_status.specs.Metrics.{delays_text, firms_text, server_text, start_text};
 ghost use Rattle.gu_status.specs.Metrics.{fullness, fullness_text, long_buckets};
 ghost use Rattle.gu_status.specs.Metrics.{metrics_text, one_if, refusal_text, refusals_text};
-ghost use Rattle.gu_status.specs.Metrics.{rest_text, firm_entries_text};
+ghost use Rattle.gu_status.specs.Metrics.{rest_text, firm_entries_text, room_text};
 ghost use Rattle.gu_status.specs.Metrics.{short_buckets, state_text, times_text, totals_text};
 
 use crate::samples::{push, push_family, push_labelled, push_millionths, push_number, push_single};
-use crate::snapshot::{FirmEntries, REASONS, Snapshot, Syncs};
+use crate::snapshot::{FirmEntries, REASONS, Snapshot, Times};
 use gu_base::Memory;
 use itoa::Buffer;
 use std::alloc::Global;
@@ -110,7 +111,7 @@ fn push_delays(text: &mut Vec<u8>, snapshot: &Snapshot) -> Result<(), Memory>
         text,
         "allocd_slow_syncs_total",
         "counter",
-        "Groups that were longer than 100 ms on their way to the disk.",
+        "Groups for which the disk took longer than 100 ms.",
         snapshot.syncs.slow,
     )?;
     push_single(
@@ -208,6 +209,33 @@ fn push_book(text: &mut Vec<u8>, snapshot: &Snapshot) -> Result<(), Memory>
     push_fullness(text, snapshot)
 }
 
+/// Appends how much room the book takes in memory, and its journal.
+#[tactic(auto, unfolding(crate::specs::Metrics::room_text))]
+fn push_room(text: &mut Vec<u8>, snapshot: &Snapshot) -> Result<(), Memory>
+    ensures { OnOk result (text.new.items ≡ text.old.items ++ room_text snapshot.now) }
+{
+    push_single(
+        text,
+        "allocd_book_bytes",
+        "gauge",
+        "About how many bytes of memory the book takes.",
+        snapshot.book_bytes,
+    )?;
+    push_single(
+        text,
+        "allocd_journal_bytes",
+        "gauge",
+        "Bytes of the journal.",
+        snapshot.journal_bytes,
+    )?;
+    push_flag(
+        text,
+        "allocd_lacks_memory",
+        "1 where memory lacks, so that no calls of firms are made, else 0.",
+        snapshot.lacks_memory,
+    )
+}
+
 /// Appends the entries of firms.
 #[tactic(auto, unfolding(crate::specs::Metrics::firm_entries_text))]
 fn push_firm_entries(text: &mut Vec<u8>, snapshot: &Snapshot) -> Result<(), Memory>
@@ -276,69 +304,91 @@ fn push_calls(text: &mut Vec<u8>, snapshot: &Snapshot) -> Result<(), Memory>
     push_refusals(text, &snapshot.refused)
 }
 
-/// Appends how many syncs took no longer than a bound.
-fn push_bucket(text: &mut Vec<u8>, bound: &str, count: u64) -> Result<(), Memory>
-    ensures { OnOk result (text.new.items ≡ text.old.items ++ bucket bound.now count) }
+/// Appends how often something took no longer than a bound.
+fn push_bucket(text: &mut Vec<u8>, name: &str, bound: &str, count: u64) -> Result<(), Memory>
+    ensures { OnOk result (text.new.items ≡ text.old.items ++ labelled name.now bound.now count) }
 {
-    push_labelled(
-        text,
-        "allocd_sync_seconds_bucket{le=\"",
-        bound.as_bytes(),
-        count,
-    )
+    push_labelled(text, name, bound.as_bytes(), count)
 }
 
-/// Appends how many syncs were short.
+/// Appends how often it was short.
 #[tactic(auto, unfolding(crate::specs::Metrics::short_buckets))]
-fn push_short(text: &mut Vec<u8>, syncs: &Syncs) -> Result<(), Memory>
-    ensures { OnOk result (text.new.items ≡ text.old.items ++ short_buckets syncs.now) }
+fn push_short(text: &mut Vec<u8>, name: &str, times: &Times) -> Result<(), Memory>
+    ensures { OnOk result (text.new.items ≡ text.old.items ++ short_buckets name.now times.now) }
 {
-    push_bucket(text, "0.001", syncs.within[0])?;
-    push_bucket(text, "0.002", syncs.within[1])?;
-    push_bucket(text, "0.005", syncs.within[2])?;
-    push_bucket(text, "0.01", syncs.within[3])?;
-    push_bucket(text, "0.02", syncs.within[4])?;
-    push_bucket(text, "0.05", syncs.within[5])
+    push_bucket(text, name, "0.001", times.within[0])?;
+    push_bucket(text, name, "0.002", times.within[1])?;
+    push_bucket(text, name, "0.005", times.within[2])?;
+    push_bucket(text, name, "0.01", times.within[3])?;
+    push_bucket(text, name, "0.02", times.within[4])?;
+    push_bucket(text, name, "0.05", times.within[5])
 }
 
-/// Appends how many were longer.
+/// Appends how often it was longer.
 #[tactic(auto, unfolding(crate::specs::Metrics::long_buckets))]
-fn push_long(text: &mut Vec<u8>, syncs: &Syncs) -> Result<(), Memory>
-    ensures { OnOk result (text.new.items ≡ text.old.items ++ long_buckets syncs.now) }
+fn push_long(text: &mut Vec<u8>, name: &str, times: &Times) -> Result<(), Memory>
+    ensures { OnOk result (text.new.items ≡ text.old.items ++ long_buckets name.now times.now) }
 {
-    push_bucket(text, "0.1", syncs.within[6])?;
-    push_bucket(text, "0.2", syncs.within[7])?;
-    push_bucket(text, "0.5", syncs.within[8])?;
-    push_bucket(text, "1", syncs.within[9])?;
-    push_bucket(text, "10", syncs.within[10])?;
-    push_bucket(text, "+Inf", syncs.count)
+    push_bucket(text, name, "0.1", times.within[6])?;
+    push_bucket(text, name, "0.2", times.within[7])?;
+    push_bucket(text, name, "0.5", times.within[8])?;
+    push_bucket(text, name, "1", times.within[9])?;
+    push_bucket(text, name, "10", times.within[10])?;
+    push_bucket(text, name, "+Inf", times.count)
+}
+
+/// Appends how long all took together, and how many they were.
+#[tactic(auto, unfolding(crate::specs::Metrics::totals_text))]
+fn push_totals(text: &mut Vec<u8>, sum: &str, count: &str, times: &Times) -> Result<(), Memory>
+    ensures { OnOk result (text.new.items ≡ text.old.items
+        ++ totals_text sum.now count.now times.now) }
+{
+    push(text, sum)?;
+    push_millionths(text, times.micros)?;
+    push(text, count)?;
+    push_number(text, times.count)
 }
 
 /// Appends how long syncs took.
 #[tactic(auto, unfolding(crate::specs::Metrics::times_text))]
-fn push_times(text: &mut Vec<u8>, syncs: &Syncs) -> Result<(), Memory>
-    ensures { OnOk result (text.new.items ≡ text.old.items ++ times_text syncs.now) }
+fn push_times(text: &mut Vec<u8>, times: &Times) -> Result<(), Memory>
+    ensures { OnOk result (text.new.items ≡ text.old.items ++ times_text times.now) }
 {
     push_family(
         text,
         "allocd_sync_seconds",
         "histogram",
-        "How long a group was on its way to the disk.",
+        "How long the disk took for a group.",
     )?;
-    push_short(text, syncs)?;
-    push_long(text, syncs)?;
-    push_totals(text, syncs)
+    push_short(text, "allocd_sync_seconds_bucket{le=\"", times)?;
+    push_long(text, "allocd_sync_seconds_bucket{le=\"", times)?;
+    push_totals(
+        text,
+        "allocd_sync_seconds_sum",
+        "allocd_sync_seconds_count",
+        times,
+    )
 }
 
-/// Appends how long they took together, and how many they were.
-#[tactic(auto, unfolding(crate::specs::Metrics::totals_text))]
-fn push_totals(text: &mut Vec<u8>, syncs: &Syncs) -> Result<(), Memory>
-    ensures { OnOk result (text.new.items ≡ text.old.items ++ totals_text syncs.now) }
+/// Appends how long the other machines' answers took.
+#[tactic(auto, unfolding(crate::specs::Metrics::answers_text))]
+fn push_answers(text: &mut Vec<u8>, times: &Times) -> Result<(), Memory>
+    ensures { OnOk result (text.new.items ≡ text.old.items ++ answers_text times.now) }
 {
-    push(text, "allocd_sync_seconds_sum")?;
-    push_millionths(text, syncs.micros)?;
-    push(text, "allocd_sync_seconds_count")?;
-    push_number(text, syncs.count)
+    push_family(
+        text,
+        "allocd_replicate_seconds",
+        "histogram",
+        "How long a group that was on the disk waited for the other machines.",
+    )?;
+    push_short(text, "allocd_replicate_seconds_bucket{le=\"", times)?;
+    push_long(text, "allocd_replicate_seconds_bucket{le=\"", times)?;
+    push_totals(
+        text,
+        "allocd_replicate_seconds_sum",
+        "allocd_replicate_seconds_count",
+        times,
+    )
 }
 
 /// Appends what waits, and what was lost.
@@ -381,9 +431,11 @@ pub fn metrics(alloc: Global, snapshot: &Snapshot) -> Result<Vec<u8>, Memory>
     let mut text = Vec::new(alloc);
     push_state(&mut text, snapshot)?;
     push_book(&mut text, snapshot)?;
+    push_room(&mut text, snapshot)?;
     push_firm_entries(&mut text, snapshot)?;
     push_calls(&mut text, snapshot)?;
-    push_times(&mut text, &snapshot.syncs)?;
+    push_times(&mut text, &snapshot.syncs.disk)?;
+    push_answers(&mut text, &snapshot.syncs.machines)?;
     push_rest(&mut text, snapshot)?;
     push_server(&mut text, snapshot)?;
     Ok(text)

@@ -19,5 +19,5 @@ mod warning;
 pub use figures::{RELEASE, metrics};
 pub use pages::Pages;
 pub use parts::{Part, Pulses, stuck};
-pub use snapshot::{BOUNDS, BUCKETS, FirmEntries, REASONS, Snapshot, Syncs};
+pub use snapshot::{BOUNDS, BUCKETS, FirmEntries, REASONS, Snapshot, Syncs, Times};
 pub use warning::mark_passed;

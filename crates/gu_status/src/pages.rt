@@ -91,14 +91,16 @@ fn put_health(body: &mut Rope, stuck: Option<Part>) -> Result<(), AllocError>
     }
 }
 
-/// Puts whether connections are taken into a body.
-fn put_ready(body: &mut Rope, is_ready: bool) -> Result<(), AllocError>
-    ensures { OnOk result (body.new.items ≡ body.old.items ++ ready_text is_ready) }
+/// Puts whether connections are taken into a body, and where memory lacks, what isn't done.
+fn put_ready(body: &mut Rope, is_ready: bool, lacks_memory: bool) -> Result<(), AllocError>
+    ensures { OnOk result (body.new.items ≡ body.old.items ++ ready_text is_ready lacks_memory) }
 {
-    if is_ready {
-        body.put_slice(b"ready\n")
-    } else {
+    if !is_ready {
         body.put_slice(b"not ready\n")
+    } else if lacks_memory {
+        body.put_slice(b"ready\nmemory lacks: no calls of firms are made\n")
+    } else {
+        body.put_slice(b"ready\n")
     }
 }
 
@@ -121,7 +123,7 @@ fn put_page(
 {
     match asked {
         Asked::Figures => put_metrics(alloc, body, snapshot),
-        Asked::Readiness => put_ready(body, snapshot.is_ready),
+        Asked::Readiness => put_ready(body, snapshot.is_ready, snapshot.lacks_memory),
         Asked::Health => put_health(body, snapshot.stuck),
         Asked::NoPage => body.put_slice(b"/metrics, /ready and /health are the pages\n"),
         Asked::NoMethod => body.put_slice(b"only GET and HEAD are answered\n"),

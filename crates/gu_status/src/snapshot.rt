@@ -21,16 +21,25 @@ pub struct FirmEntries {
     pub entries: u64,
 }
 
+/// How long something took, each time.
+#[derive(Clone, Copy, Debug)]
+pub struct Times {
+    /// How often it took no longer than each of the `BOUNDS`.
+    pub within: [u64; BUCKETS],
+    /// How often it was.
+    pub count: u64,
+    /// How long all took together, in microseconds.
+    pub micros: u64,
+}
+
 /// The groups that were brought to the disk.
 #[derive(Clone, Copy, Debug)]
 pub struct Syncs {
-    /// How many took no longer than each of the `BOUNDS`.
-    pub within: [u64; BUCKETS],
-    /// How many there were.
-    pub count: u64,
-    /// How long they took together, in microseconds.
-    pub micros: u64,
-    /// How many were slow.
+    /// How long the disk took for each.
+    pub disk: Times,
+    /// How long the other machines' answer took behind that, where there are other machines.
+    pub machines: Times,
+    /// For how many the disk was slow.
     pub slow: u64,
     /// For how many seconds the one that is on its way now is; 0 where none is.
     pub oldest_seconds: u64,
@@ -50,6 +59,11 @@ pub struct Snapshot {
     /// The entries of the book, and the most that it may have.
     pub entries: u32,
     pub most_entries: u32,
+    /// About how many bytes of memory the book takes, and how many its journal's file has.
+    pub book_bytes: u64,
+    pub journal_bytes: u64,
+    /// Whether memory lacks, so that no calls of firms are made.
+    pub lacks_memory: bool,
     /// The entries of each firm, in the order of the house file.
     pub firms: Vec<FirmEntries>,
     /// The connections that are open.

@@ -6,7 +6,7 @@
 use gu_base::{FirmId, Memory};
 use gu_log::{Event, Field, Key, Value, line};
 use gu_status::{
-    FirmEntries, Pages, Part, Pulses, REASONS, Snapshot, Syncs, mark_passed, metrics, stuck,
+    FirmEntries, Pages, Part, Pulses, REASONS, Snapshot, Syncs, Times, mark_passed, metrics, stuck,
 };
 use http_server::{Config, Connection, serve};
 use std::alloc::Global;
@@ -57,6 +57,9 @@ fn snapshot(alloc: Global, stuck: Option<Part>) -> Result<Snapshot, Memory> {
         stuck,
         entries: 250_000,
         most_entries: 1_000_000,
+        book_bytes: 71_250_000,
+        journal_bytes: 43_000_001,
+        lacks_memory: false,
         firms,
         connections: 2,
         accepted: 4,
@@ -65,9 +68,16 @@ fn snapshot(alloc: Global, stuck: Option<Part>) -> Result<Snapshot, Memory> {
         logons_refused: 9,
         waiting_bytes: 77,
         syncs: Syncs {
-            within: [1, 2, 3, 4, 5, 6, 7, 8, 9, 10, 11],
-            count: 12,
-            micros: 12_034_056,
+            disk: Times {
+                within: [1, 2, 3, 4, 5, 6, 7, 8, 9, 10, 11],
+                count: 12,
+                micros: 12_034_056,
+            },
+            machines: Times {
+                within: [0, 0, 1, 1, 1, 1, 2, 2, 2, 2, 3],
+                count: 3,
+                micros: 2_000_001,
+            },
             slow: 5,
             oldest_seconds: 4,
             idle_seconds: 6,
@@ -151,5 +161,8 @@ fn main(rt: HostRuntime) -> Result<(), Memory> {
     tell(&rt, &well)?;
     let still = snapshot(rt.alloc(), Some(Part::Worker(3)))?;
     tell_pages(&rt, &well, &still);
+    let mut lacking = snapshot(rt.alloc(), None)?;
+    lacking.lacks_memory = true;
+    tell_page(&rt, &lacking, b"GET /ready HTTP/1.1\r\nHost: x\r\n\r\n");
     Ok(())
 }
