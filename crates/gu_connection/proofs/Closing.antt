@@ -1,5 +1,5 @@
 -- What a connection is sent that is to be closed.
-use Rattle.std.proofs.Common.{◌≡◌, ◌⊎◌, inl, inr, ℕ, zero, ◌+◌, List, [], ◌++◌, Bool, true, false, OnErr, OnOk, Result}
+use Rattle.std.proofs.Common.{◌≡◌, ◌⊎◌, inl, inr, ℕ, zero, List, [], ◌++◌, Bool, true, false, OnErr, OnOk, Result}
 use Rattle.std.proofs.Common.{Ok, Err, Option, Some, None, refl, sym, ◌∙◌, subst, ap, append-nil, take, length}
 use Rattle.std.proofs.Math.Seq.{take-length}
 use Rattle.std.specs.Prelude.{if◌then◌else◌, IfOk}
@@ -20,9 +20,10 @@ use Rattle.gu_session.specs.declared.event.Event.TheVariants as event
 use Rattle.gu_connection.specs.Conversing.{Talk, RoundsAndCloses}
 use Rattle.gu_connection.specs.Standing.{Standing, comes, says}
 use Rattle.gu_connection.specs.Turns.{StepsNow, Shuts, Speaks, Brings}
-use Rattle.gu_connection.specs.Asking.{Asks, Looks, AsksAtMost}
+use Rattle.gu_connection.specs.Asking.{Asks, Looks, LooksAtMost, AsksAtMost}
 use Rattle.gu_connection.specs.Talks.{DoesNothing, ActsInPart, Breaks, Closes, Talks, Ticks, IsLoggedOut}
 use Rattle.gu_connection.specs.Talks.{TurnsAndCloses, Turns}
+use Rattle.gu_connection.specs.declared.beginning.Beginning.{Beginning}
 use Rattle.gu_connection.specs.declared.connection.Brought.TheVariants as brought
 use Rattle.gu_connection.specs.declared.worker.Left.{Left}
 
@@ -136,7 +137,7 @@ unanswered (Err e) house opening a id command before sent behind is same logged 
 
 -- a message that is not done to its end
 pub said_last : (house : List ℕ) (opening : HouseAndHistory) (a : Actions) (before next behind : Standing)
-    → Brings before.feed before.session next.session next.feed (brought.Message a)
+    → Brings before.book before.feed before.session next.session next.feed (brought.Message a)
     → next ≡ record before { session = next.session; feed = next.feed }
     → DoesNothing next behind ⊎ ActsInPart house opening a next behind → Breaks house opening before behind
 said_last house opening a before next behind brings same (inl nothing) =
@@ -144,7 +145,40 @@ said_last house opening a before next behind brings same (inl nothing) =
     inl (subst at same nothing)
 said_last house opening a before next behind brings same (inr part) =
     let at : Standing → Type 0 = λ s. ActsInPart house opening a s behind in
-    inr (a, next.session, inl (next.feed, brings), subst at same part)
+    inr (a, next.session, inl (next.feed, brings.0, brings.1), subst at same part)
+
+-- and a Logon
+pub entered_last : (house : List ℕ) (opening : HouseAndHistory) (a : Actions) (asked : Beginning)
+    (before next behind : Standing)
+    → Brings before.book before.feed before.session next.session next.feed (brought.Logon a asked)
+    → next ≡ record before { session = next.session; feed = next.feed }
+    → DoesNothing next behind ⊎ ActsInPart house opening a next behind → Breaks house opening before behind
+entered_last house opening a asked before next behind brings same (inl nothing) =
+    let at : Standing → Type 0 = λ s. DoesNothing s behind in
+    inl (subst at same nothing)
+entered_last house opening a asked before next behind brings same (inr part) =
+    let at : Standing → Type 0 = λ s. ActsInPart house opening a s behind in
+    inr (a, next.session, inl (next.feed, brings.0, brings.1), subst at same part)
+
+-- a look is no call
+looked : (opening : HouseAndHistory) (firm : Option (List ℕ)) (call : Option (List ℕ × Command))
+    (old new : SeatView) → LooksAtMost opening old new → AsksAtMost opening firm call old new
+looked opening firm call old new (inl same) = inl same
+looked opening firm call old new (inr looks) = inr (inl looks)
+
+-- a Logon behind which a Logout says that its reports have nowhere to begin
+pub not_begun : {A E : Type 0} (r : Result A E) (house : List ℕ) (opening : HouseAndHistory) (a : Actions)
+    (before sent behind : Standing) → sent ≡ says a before
+    → OnErr r (IsLoggedOut house sent.session sent.out behind.out) → LooksAtMost opening sent.seat behind.seat
+    → OnErr r (DoesNothing before behind ⊎ ActsInPart house opening a before behind)
+not_begun (Ok x) house opening a before sent behind same logged looks = tt
+not_begun (Err e) house opening a before sent behind same logged looks =
+    let of_seat : Standing → Type 0 = λ s. LooksAtMost opening s.seat behind.seat in
+    let of_out : Standing → Type 0 = λ s. IsLoggedOut house s.session s.out behind.out in
+    inr (
+      looked opening before.session.link.firm a.call before.seat behind.seat (subst of_seat same looks),
+      subst of_out same logged,
+    )
 
 -- a Tick that closes the session
 pub ticked_last : (house : List ℕ) (opening : HouseAndHistory) (before behind : Standing) → behind.seat ≡ before.seat

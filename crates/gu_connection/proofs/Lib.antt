@@ -5,3 +5,4 @@ mod Talking
 mod Closing
 mod Conversing
 pub mod Seen
+pub mod Still

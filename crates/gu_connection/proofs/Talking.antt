@@ -1,5 +1,6 @@
 -- What the steps of a turn do together.
-use Rattle.std.proofs.Common.{◌≡◌, ℕ, suc, false, OnOk, Result, Ok, Err, Option, Some, None, refl, sym, subst, List}
+use Rattle.std.proofs.Common.{◌≡◌, ℕ, suc, Bool, false, OnOk, Result, Ok}
+use Rattle.std.proofs.Common.{Err, Option, Some, None, refl, sym, subst, List}
 use Rattle.std.specs.Prelude.{IfOk}
 use Rattle.gu_base.specs.declared.command.Command.{Command}
 use Rattle.gu_book.specs.Seen.{HouseAndHistory}
@@ -7,7 +8,8 @@ use Rattle.gu_codec.specs.Next.{NextAnswers}
 use Rattle.gu_session.specs.declared.event.Actions.{Actions}
 use Rattle.gu_connection.specs.Standing.{Standing, comes, says}
 use Rattle.gu_connection.specs.Talks.{Tells, Calls, Acts, Takes, Talks, Ticks, Rests, TakesAll, IsOfRead, Idles, Reads}
-use Rattle.gu_connection.specs.Talks.{TurnsRead, Turns}
+use Rattle.gu_connection.specs.Talks.{TurnsRead, Turns, Begins, Enters, Waits, IsSpentBy}
+use Rattle.gu_connection.specs.declared.beginning.Beginning.{Beginning}
 use Rattle.gu_connection.specs.Turns.{Brings}
 use Rattle.gu_connection.specs.declared.connection.Brought.TheVariants as brought
 use Rattle.gu_connection.specs.declared.worker.Left.{Left}
@@ -29,7 +31,7 @@ sent_on opening a before sent is same stays = (stays, rw is same)
 
 -- a garbled frame is passed over
 pub passed : (opening : HouseAndHistory) (before next : Standing)
-    → Brings before.feed before.session next.session next.feed brought.Garbled
+    → Brings before.book before.feed before.session next.session next.feed brought.Garbled
     → next ≡ record before { session = next.session; feed = next.feed } → Takes opening before next
 passed opening before next brings same = record {
   came = brought.Garbled;
@@ -41,7 +43,7 @@ passed opening before next brings same = record {
 
 -- a message is taken
 pub took : (opening : HouseAndHistory) (a : Actions) (before next behind : Standing)
-    → Brings before.feed before.session next.session next.feed (brought.Message a)
+    → Brings before.book before.feed before.session next.session next.feed (brought.Message a)
     → next ≡ record before { session = next.session; feed = next.feed } → Acts opening a next behind
     → Takes opening before behind
 took opening a before next behind brings same acts =
@@ -53,6 +55,30 @@ took opening a before next behind brings same acts =
       brings = brings;
       follows = subst at same acts;
     }
+
+-- a Logon is taken
+pub entered : (opening : HouseAndHistory) (a : Actions) (asked : Beginning) (before next behind : Standing)
+    → Brings before.book before.feed before.session next.session next.feed (brought.Logon a asked)
+    → next ≡ record before { session = next.session; feed = next.feed } → Enters opening a asked next behind
+    → Takes opening before behind
+entered opening a asked before next behind brings same enters =
+    let at : Standing → Type 0 = λ s. Enters opening a asked s behind in
+    record {
+      came = brought.Logon a asked;
+      session = next.session;
+      feed = next.feed;
+      brings = brings;
+      follows = subst at same enters;
+    }
+
+-- and its reports begin
+pub begun : {A E : Type 0} (r : Result A E) (opening : HouseAndHistory) (a : Actions) (asked : Beginning)
+    (before sent behind : Standing) → sent ≡ says a before → a.close ≡ false
+    → OnOk r (Begins opening asked sent behind) → OnOk r (Enters opening a asked before behind)
+begun (Ok x) opening a asked before sent behind same stays begins =
+    let at : Standing → Type 0 = λ s. Begins opening asked s behind in
+    (stays, subst at same begins)
+begun (Err e) opening a asked before sent behind same stays begins = tt
 
 -- one frame more
 pub goes_on : (opening : HouseAndHistory) (before between behind : Standing) →
@@ -68,6 +94,37 @@ rests_at left.Unread last behind h end = end
 rests_at left.Untaken last behind h end = absurd h
 rests_at left.Late last behind h end = absurd h
 rests_at left.Spent last behind h end = absurd h
+
+-- none of these is left since a span is over
+read_unspent : (b : Bool) (l : Left) → IsOfRead l → IsSpentBy b l
+read_unspent b left.Nothing h = tt
+read_unspent b left.Unread h = tt
+read_unspent b left.Untaken h = absurd h
+read_unspent b left.Late h = absurd h
+read_unspent b left.Spent h = absurd h
+
+-- a turn that leaves this is over by its span only where it has one
+pub unspent : {E : Type 0} (r : Result Left E) (b : Bool) (l : Left) (p : Type 0) → IsSpentBy b l
+    → IfOk r (λ k. (k ≡ l) × p) → IfOk r (λ k. IsSpentBy b k)
+unspent (Ok k) b l p is does = subst (λ (m : Left). IsSpentBy b m) (sym does.0) is
+unspent (Err e) b l p is does = tt
+
+pub unspent_read : {E : Type 0} (r : Result Left E) (b : Bool) (l : Left) (p : Type 0) → IsOfRead l
+    → IfOk r (λ k. (k ≡ l) × p) → IfOk r (λ k. IsSpentBy b k)
+unspent_read r b l p of_read does = unspent r b l p (read_unspent b l of_read) does
+
+wait_unspent : (b : Bool) (l : Left) (opening : HouseAndHistory) (before behind : Standing)
+    → Waits opening before behind l → IsSpentBy b l
+wait_unspent b left.Nothing opening before behind waits = tt
+wait_unspent b left.Unread opening before behind waits = tt
+wait_unspent b left.Untaken opening before behind waits = tt
+wait_unspent b left.Late opening before behind waits = tt
+wait_unspent b left.Spent opening before behind waits = absurd waits
+
+pub unspent_wait : {E : Type 0} (r : Result Left E) (b : Bool) (opening : HouseAndHistory) (before behind : Standing)
+    → IfOk r (λ l. Waits opening before behind l) → IfOk r (λ l. IsSpentBy b l)
+unspent_wait (Ok l) b opening before behind waits = wait_unspent b l opening before behind waits
+unspent_wait (Err e) b opening before behind waits = tt
 
 -- the end of a turn that has taken all messages
 pub rested : {E : Type 0} (r : Result Left E) (opening : HouseAndHistory) (before last next behind : Standing)

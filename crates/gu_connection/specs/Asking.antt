@@ -26,6 +26,10 @@ pub record Asks (opening : HouseAndHistory) (c : Call) (answer : Answer) (old ne
 abbrev pub Looks : HouseAndHistory → SeatView → SeatView → Type 0
 Looks opening old new = HasSeen opening old.seen new.seen × (new.share ≡ old.share)
 
+-- the seat is as it was, or has looked so
+abbrev pub LooksAtMost : HouseAndHistory → SeatView → SeatView → Type 0
+LooksAtMost opening old new = (new ≡ old) ⊎ Looks opening old new
+
 -- the call that a step asks for in the name of the firm is made, and its answer isn't told
 pub record AsksOnly (opening : HouseAndHistory) (firm : Option (List ℕ))
     (call : Option (List ℕ × Command)) (old new : SeatView) : Type 0 where

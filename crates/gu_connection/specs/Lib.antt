@@ -1,9 +1,11 @@
 pub mod Accepting
 pub mod Steady
 pub mod Serving
+pub mod Beginning
 pub mod Standing
 pub mod Asking
 pub mod Turns
 pub mod LoggingOut
 pub mod Talks
 pub mod Conversing
+pub mod Lasting

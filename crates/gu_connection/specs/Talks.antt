@@ -1,21 +1,25 @@
 -- What a turn of a connection does: which messages of the bytes held it takes, what it asks the
 -- book for on their behalf, and what it sends of the answers.
-use Rattle.std.specs.Prelude.{◌≡◌, ◌⊎◌, ℕ, zero, suc, ◌+◌, ◌<◌, List, ◌++◌, length, Bool, true}
-use Rattle.std.specs.Prelude.{false, Option, Some, None}
+use Rattle.std.specs.Prelude.{◌≡◌, ◌⊎◌, ℕ, zero, suc, ◌<◌, List, ◌++◌, length, Bool, true}
+use Rattle.std.specs.Prelude.{false, Option, Some, None, IsTrue}
 use Rattle.std.specs.Io.KnownBytes.{Keeps, Consumes}
 use Rattle.gu_base.specs.declared.command.Command.{Command}
 use Rattle.gu_base.specs.declared.entry.Answer.{Answer}
 use Rattle.gu_book.specs.Seen.{HouseAndHistory}
 use Rattle.gu_codec.specs.Next.{NextAnswers}
+use Rattle.gu_codec.specs.declared.fields.Fields.{Fields}
 use Rattle.gu_codec.specs.Stream.{Stream}
 use Rattle.gu_desk.specs.Views.{SeatView}
 use Rattle.gu_session.specs.Steps.{Seen}
 use Rattle.gu_session.specs.declared.event.Actions.{Actions}
 use Rattle.gu_session.specs.declared.event.Event.TheVariants as event
-use Rattle.gu_connection.specs.Asking.{Asks, Looks, AsksAtMost}
+use Rattle.gu_connection.specs.Asking.{Asks, Looks, LooksAtMost, AsksAtMost}
 use Rattle.gu_connection.specs.LoggingOut.{LogsOut}
 use Rattle.gu_connection.specs.Standing.{Standing, comes, says}
-use Rattle.gu_connection.specs.Turns.{StepsNow, Speaks, Replies, Brings}
+use Rattle.gu_connection.specs.Beginning.{within}
+use Rattle.gu_connection.specs.Turns.{StepsNow, Speaks, Replies, Brings, Learns}
+use Rattle.gu_connection.specs.declared.beginning.Beginning.{Beginning}
+use Rattle.gu_connection.specs.declared.beginning.Beginning.TheVariants.{Above}
 use Rattle.gu_connection.specs.declared.connection.Brought.{Brought}
 use Rattle.gu_connection.specs.declared.connection.Brought.TheVariants as brought
 use Rattle.gu_connection.specs.declared.worker.Left.{Left}
@@ -54,18 +58,37 @@ abbrev pub Acts : HouseAndHistory → Actions → Standing → Standing → Type
 Acts opening a before behind =
     (a.close ≡ false) × Answered opening a.call (says a before) behind
 
+-- the reports of a firm that has just logged on begin above the entry that it asks for, in the
+-- history that the seat has then seen
+abbrev pub Begins : HouseAndHistory → Beginning → Standing → Standing → Type 0
+Begins opening asked before behind =
+    (number : ℕ) × (within (length behind.seat.seen) asked ≡ Above number)
+    × LooksAtMost opening before.seat behind.seat
+    × (behind ≡ record before {
+      seat = behind.seat;
+      told = number;
+      looked = number;
+      tells = true;
+    })
+
+-- what the step of a Logon asks for that was accepted is done
+abbrev pub Enters : HouseAndHistory → Actions → Beginning → Standing → Standing → Type 0
+Enters opening a asked before behind =
+    (a.close ≡ false) × Begins opening asked (says a before) behind
+
 -- what follows from what the bytes held have brought: a garbled frame is passed over
 abbrev pub Follows : HouseAndHistory → Brought → Standing → Standing → Type 0
 Follows opening brought.Nothing before behind = ⊥
 Follows opening brought.Garbled before behind = behind ≡ before
 Follows opening (brought.Message a) before behind = Acts opening a before behind
+Follows opening (brought.Logon a asked) before behind = Enters opening a asked before behind
 
 -- the next frame of the bytes held is taken
 pub record Takes (opening : HouseAndHistory) (before behind : Standing) : Type 0 where
   pub came : Brought
   pub session : Seen
   pub feed : Stream
-  pub brings : Brings before.feed before.session session feed came
+  pub brings : Brings before.book before.feed before.session session feed came
   pub follows : Follows opening came (record before { session = session; feed = feed }) behind
 
 -- the next frame is taken, if one has come whole
@@ -96,6 +119,11 @@ abbrev pub IsOfRead : Left → Type 0
 IsOfRead left.Nothing = Unit {0}
 IsOfRead left.Unread = Unit {0}
 IsOfRead _ = ⊥
+
+-- only a turn that has a span leaves messages since that is over
+abbrev pub IsSpentBy : Bool → Left → Type 0
+IsSpentBy has_span left.Spent = IsTrue has_span
+IsSpentBy has_span _ = Unit {0}
 
 -- what a turn does behind the last message that it takes: where all that have come whole are taken,
 -- one Tick. Otherwise it does nothing more: too much waits to be sent, the firm is late, or the
@@ -160,7 +188,7 @@ Turns opening _ coming left_over before behind l =
 -- the session's step over the next message of the bytes held, or over a Tick
 abbrev pub Moves : Standing → Seen → Actions → Type 0
 Moves before session a =
-    ((feed : Stream) × Brings before.feed before.session session feed (brought.Message a))
+    ((feed : Stream) × (fields : Fields) × Learns before.feed before.session session feed fields a)
     ⊎ StepsNow event.Tick before.session session a
 
 -- nothing is sent, or a Logout

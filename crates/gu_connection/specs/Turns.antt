@@ -1,7 +1,8 @@
 -- What a turn of a connection does to its session, and what it sends.
 use Rattle.std.specs.Prelude.{◌≡◌, ◌⊎◌, ◌≤ℤ◌, ℕ, pos, List, ◌++◌, length, nat_le, true, false}
-use Rattle.std.specs.Prelude.{Option, Some, None}
+use Rattle.std.specs.Prelude.{Option, Some, None, Bool, ◌&&◌, not, is_some}
 use Rattle.jiff.specs.Types.{Timestamp}
+use Rattle.gu_codec.specs.Answer.{pairs}
 use Rattle.gu_codec.specs.declared.fields.Fields.{Fields}
 use Rattle.gu_codec.specs.declared.frame.Frame.TheVariants.{Whole, Garbled}
 use Rattle.gu_codec.specs.Next.{NextAnswers, after}
@@ -16,6 +17,9 @@ use Rattle.gu_session.specs.Steps.{Seen}
 use Rattle.gu_session.specs.Text.{Steps}
 use Rattle.gu_trace.specs.Between.{last_told, looked_to}
 use Rattle.gu_trace.specs.Reports.{most_reports, reports_for}
+use Rattle.gu_command.specs.declared.naming.NamedBook.{NamedBook}
+use Rattle.gu_connection.specs.Beginning.{asked_by}
+use Rattle.gu_connection.specs.declared.beginning.Beginning.{Beginning}
 use Rattle.gu_connection.specs.Standing.{Standing}
 use Rattle.gu_connection.specs.declared.connection.Brought.{Brought}
 use Rattle.gu_connection.specs.declared.connection.Brought.TheVariants as brought
@@ -46,8 +50,8 @@ IsReply answer told _ = ⊥
 
 -- what a reply does to the connection of the firm f: the session took the answer, if there is one,
 -- and the firm's reports of the history that the seat has then seen, above the entry up to which
--- was looked, and what it sends of them is sent. Up to which entry was looked, and the last that
--- was told of, are noted
+-- was looked, and what it sends of them is sent. Up to which entry was looked, the last that
+-- was told of, and that the turn was told of the book, are noted
 pub record Replies (t : House) (f : List ℕ) (answer : Option Answer) (before after : Standing)
     : Type 0 where
   pub taken : Event
@@ -59,16 +63,37 @@ pub record Replies (t : House) (f : List ℕ) (answer : Option Answer) (before a
       (reports_for t.house after.seat.seen f before.looked)
   pub behind : after.behind
       ≡ nat_le most_reports (length (reports_for t.house after.seat.seen f before.looked))
+  pub tells : after.tells ≡ true
 
--- what the bytes held bring, and what they leave of them: no frame yet, a garbled one, of which the
--- session learns nothing, or a message and the session's step over it
-abbrev pub Brings : Stream → Seen → Seen → Stream → Brought → Type 0
-Brings held before behind left brought.Nothing =
-    NextAnswers held None × (left ≡ held) × (behind ≡ before)
-Brings held before behind left brought.Garbled =
-    (len : ℕ) × NextAnswers held (Some (Garbled len)) × (left ≡ after held (Some (Garbled len)))
-    × (behind ≡ before)
-Brings held before behind left (brought.Message a) =
-    (fields : Fields) × (len : ℕ) × NextAnswers held (Some (Whole fields len))
+-- the next message of the bytes held, of these fields, is taken from them, and the session's step
+-- over it gives this
+abbrev pub Learns : Stream → Seen → Seen → Stream → Fields → Actions → Type 0
+Learns held before behind left fields a =
+    (len : ℕ) × NextAnswers held (Some (Whole fields len))
     × (left ≡ after held (Some (Whole fields len)))
     × StepsNow (event.Message fields) before behind a
+
+-- a firm has logged on by a step
+abbrev pub logs_on : Seen → Seen → Bool
+logs_on before behind = not (is_some before.link.firm) && is_some behind.link.firm
+
+-- what a message brings, and its step: a Logon, where a firm has logged on by it
+abbrev pub message_brings : Bool → Actions → Beginning → Brought
+message_brings true a asked = brought.Logon a asked
+message_brings false a asked = brought.Message a
+
+-- what the bytes held bring, and what they leave of them: no frame yet, a garbled one, of which the
+-- session learns nothing, or a message and the session's step over it; of a Logon that is accepted
+-- also what it asks for of this book
+abbrev pub Brings : Option NamedBook → Stream → Seen → Seen → Stream → Brought → Type 0
+Brings book held before behind left brought.Nothing =
+    NextAnswers held None × (left ≡ held) × (behind ≡ before)
+Brings book held before behind left brought.Garbled =
+    (len : ℕ) × NextAnswers held (Some (Garbled len)) × (left ≡ after held (Some (Garbled len)))
+    × (behind ≡ before)
+Brings book held before behind left (brought.Message a) =
+    (fields : Fields) × Learns held before behind left fields a
+    × (logs_on before behind ≡ false)
+Brings book held before behind left (brought.Logon a asked) =
+    (fields : Fields) × Learns held before behind left fields a
+    × (logs_on before behind ≡ true) × (asked ≡ asked_by book (pairs fields))

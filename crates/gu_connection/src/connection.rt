@@ -1,13 +1,14 @@
 //! One connection: its session, the bytes that came of it, and what it is to be sent. Nothing here
 //! asks the book.
 ghost use Rattle.std.specs.Prelude.{◌≡◌, ◌⊎◌, ◌≤◌, ◌≤ℤ◌, pos, ◌+◌, ◌++◌, ℕ, List, [], length};
-ghost use Rattle.std.specs.Prelude.{true, false, take};
+ghost use Rattle.std.specs.Prelude.{true, false, take, not, ◌&&◌};
 ghost use Rattle.std.specs.Io.KnownBytes.{Appends};
-ghost use Rattle.std.specs.Prelude.{nat_le, None, IfOk, OnOk, OnErr, IsErr};
+ghost use Rattle.std.specs.Prelude.{nat_le, None, option_map, IfOk, OnOk, OnErr, IsErr};
 ghost use Rattle.std.specs.List.{All};
 ghost use Rattle.gu_base.specs.Limits.{most_parts};
 ghost use Rattle.gu_codec.specs.Limits.{longest_frame};
 ghost use Rattle.gu_session.specs.Steps.{opening};
+ghost use Rattle.gu_session.specs.Keeping.{bytes_of};
 ghost use Rattle.gu_session.specs.Text.{ShowFewParts};
 ghost use Rattle.gu_session.specs.declared.event.Event.TheVariants.{Reply};
 ghost use Rattle.gu_base.specs.House.{House as HouseTable};
@@ -15,16 +16,20 @@ ghost use Rattle.gu_base.specs.Runs.{IsRunFrom};
 ghost use Rattle.gu_base.specs.declared.entry.Entry.{Entry};
 ghost use Rattle.gu_trace.specs.Between.{last_told, looked_to, HasLooked};
 ghost use Rattle.gu_trace.specs.Reports.{most_reports, reports_for};
-ghost use Rattle.gu_connection.specs.Turns.{StepsNow, Speaks, Shuts, Brings};
+ghost use Rattle.gu_codec.specs.Answer.{pairs};
+ghost use Rattle.gu_connection.specs.Beginning.{asked_by as asks_of};
+ghost use Rattle.gu_connection.specs.Turns.{StepsNow, Speaks, Shuts, Brings, message_brings};
 ghost use Rattle.gu_connection.specs.LoggingOut.{logout_of, LogsOut};
 ghost use Rattle.gu_limits.specs.Admission.{most_text};
 ghost use Rattle.gu_session.specs.Steps.{time_of};
 
+use crate::beginning::{Beginning, asked_by};
 use crate::look::Look;
 use crate::steady::SteadyClock;
 use gu_base::{Answer, FirmId, Memory, Report};
 use gu_board::Pace;
-use gu_codec::{Feed, Frame, Header, append_field, tags, write_frame};
+use gu_codec::{Feed, Fields, Frame, Header, append_field, tags, write_frame};
+use gu_command::NamedBook;
 use gu_message::{SendingTime, msg_types};
 use gu_parties::House;
 use gu_session::{Actions, Event, LAST_NUMBER, Session};
@@ -32,10 +37,13 @@ use gu_trace::{MOST_REPORTS, nothing_is_passed_over};
 use jiff::Timestamp;
 use std::alloc::Global;
 use std::io::Write;
-use std::time::Clock;
+use std::time::{Clock, Instant};
 
 /// The bytes that the body of a Logout with a text of `log_out` has at the most.
 const LOGOUT_ROOM: usize = 256;
+
+/// From how many milliseconds on a write has waited for the peer.
+const SLOW_WRITE: u128 = 100;
 
 /// The connection is to be closed.
 #[derive(Clone, Copy, PartialEq, Eq)]
@@ -50,6 +58,20 @@ pub(crate) enum Brought {
     Garbled,
     /// A message, and what its step asks for.
     Message(Actions),
+    /// A Logon that was accepted, what its step asks for, and from where the firm asks its reports
+    /// to begin.
+    Logon(Actions, Beginning),
+}
+
+/// Whether a write that has begun then has waited for the peer.
+fn has_waited<R: Clock>(rt: &R, begun: Option<Instant>) -> bool {
+    match begun {
+        Some(begun) => match begun.elapsed(rt) {
+            Ok(took) => took.as_millis() >= SLOW_WRITE,
+            Err(_) => false,
+        },
+        None => false,
+    }
 }
 
 /// One step of a session, at its clock's moment. A clock that can't be told closes the connection,
@@ -71,6 +93,24 @@ fn step<R: Clock>(
         Ok(actions) => Ok(actions),
         Err(_) => Err(Closed),
     }
+}
+
+/// What a message with these fields has brought, whose step asks for these actions, where a firm
+/// had logged on before it or hadn't, and has behind it or hasn't.
+fn brought_by(
+    was_on: bool,
+    is_on: bool,
+    actions: Actions,
+    book: Option<&NamedBook>,
+    fields: Fields<'_>,
+) -> Brought
+    ensures { result ≡ message_brings (not was_on && is_on) actions
+        (asks_of (option_map (λ b. b.now) book.entry) (pairs fields.entry)) }
+{
+    if !was_on && is_on {
+        return Brought::Logon(actions, asked_by(book, fields));
+    }
+    Brought::Message(actions)
 }
 
 /// Appends a Logout of the house to a firm, with this number and this text.
@@ -119,25 +159,40 @@ pub struct Connection<'a> {
     session: Session<'a>,
     /// The clock by which the session goes.
     clock: SteadyClock,
+    /// The book that is served, where its name is read.
+    book: Option<&'a NamedBook>,
     feed: Feed,
-    /// The number of the last report that was sent, 0 at first.
+    /// The number of the last report that was sent, or of that above which they begin, 0 at first.
     told: u32,
-    /// The entry up to which its readings have looked, 0 at first. No entry above the last report
-    /// that was sent, up to it, concerns the firm.
+    /// The entry up to which its readings have looked, or above which they begin, 0 at first. No
+    /// entry above the last report that was sent, up to it, concerns the firm.
     looked: u32,
     /// Whether the last reading had as many reports as one may have, so that more may be there.
     behind: bool,
+    /// Above which entry its reports begin, once that is decided.
+    begun: Option<u32>,
     /// What the turn sends, in one write at its end.
     out: Vec<u8>,
+    /// Whether the turn was told of the book: an answer, reports, or from where these begin.
+    tells: bool,
     /// What the feed holds, where calls may have to wait.
     look: Look,
     /// What it has had of its firm's rate.
     pace: Pace,
+    /// Whether a write has waited for the peer.
+    is_slow: bool,
 }
 
 impl<'a> Connection<'a> {
-    /// A connection before its first turn, on which calls may have to wait or never do.
-    pub fn new(alloc: Global, house: &'a House, may_wait: bool) -> Result<Connection<'a>, Closed>
+    /// A connection before its first turn, on which calls may have to wait or never do, to this
+    /// book, where its name is read.
+    pub fn new(
+        alloc: Global,
+        house: &'a House,
+        book: Option<&'a NamedBook>,
+        may_wait: bool,
+    ) -> Result<Connection<'a>, Closed>
+        ensures book { IfOk result (λ c. c.book ≡ book.entry) }
         ensures session { IfOk result (λ c. c.session ≡ opening house.now c.session.link.came) }
         ensures feed { IfOk result
             (λ c. (c.feed.held ≡ []) × (c.feed.passed ≡ 0) × (c.feed.broken ≡ None)) }
@@ -150,13 +205,17 @@ impl<'a> Connection<'a> {
             Ok(feed) => Ok(Connection {
                 session: Session::new(alloc, house),
                 clock: SteadyClock::new(),
+                book,
                 feed,
                 told: 0,
                 looked: 0,
                 behind: false,
+                begun: None,
                 out: Vec::new(alloc),
+                tells: false,
                 look: Look::new(alloc, may_wait),
                 pace: Pace::new(),
+                is_slow: false,
             }),
             Err(_) => Err(Closed),
         }
@@ -184,6 +243,11 @@ impl<'a> Connection<'a> {
         self.behind
     }
 
+    /// Above which entry the firm's reports begin, once it has logged on and was told no other.
+    pub fn begun(&self) -> Option<u32> {
+        self.begun
+    }
+
     /// Whether the wall clock has left its session's clock by more than that outlives.
     pub(crate) fn has_stepped(&self) -> bool {
         self.clock.has_stepped()
@@ -192,6 +256,11 @@ impl<'a> Connection<'a> {
     /// What it has had of its firm's rate.
     pub fn pace(&self) -> &Pace {
         &self.pace
+    }
+
+    /// Whether a write has waited for the peer.
+    pub(crate) fn is_slow(&self) -> bool {
+        self.is_slow
     }
 
     /// Whether a call, or a request for resends, stands first of what has come whole, on a
@@ -212,9 +281,11 @@ impl<'a> Connection<'a> {
         ensures ok { OnOk result
             (self.new.feed ≡ record self.old.feed { held = self.old.feed.held ++ piece.now }) }
         ensures session { self.new.session ≡ self.old.session }
+        ensures book { self.new.book ≡ self.old.book }
         ensures told { self.new.told ≡ self.old.told }
         ensures looked { self.new.looked ≡ self.old.looked }
         ensures behind { self.new.behind ≡ self.old.behind }
+        ensures tells { self.new.tells ≡ self.old.tells }
         ensures out { self.new.out.items ≡ self.old.out.items }
     {
         self.look.push(piece)?;
@@ -235,9 +306,11 @@ impl<'a> Connection<'a> {
             × (actions.now.close ≡ true))) }
         ensures session { self.new.session ≡ self.old.session }
         ensures feed { self.new.feed ≡ self.old.feed }
+        ensures book { self.new.book ≡ self.old.book }
         ensures told { self.new.told ≡ self.old.told }
         ensures looked { self.new.looked ≡ self.old.looked }
         ensures behind { self.new.behind ≡ self.old.behind }
+        ensures tells { self.new.tells ≡ self.old.tells }
     {
         if self.out.extend_from_slice(actions.send.as_slice()).is_err() || actions.close {
             return Err(Closed);
@@ -254,9 +327,11 @@ impl<'a> Connection<'a> {
         ensures err { OnErr result
             (Shuts event.entry self.old.session self.old.out.items self.new.out.items) }
         ensures feed { self.new.feed ≡ self.old.feed }
+        ensures book { self.new.book ≡ self.old.book }
         ensures told { self.new.told ≡ self.old.told }
         ensures looked { self.new.looked ≡ self.old.looked }
         ensures behind { self.new.behind ≡ self.old.behind }
+        ensures tells { self.new.tells ≡ self.old.tells }
     {
         match step(rt, &mut self.clock, &mut self.session, event) {
             Ok(actions) => self.send(&actions),
@@ -279,9 +354,11 @@ impl<'a> Connection<'a> {
     pub fn log_out<R: Clock>(&mut self, rt: &R, alloc: Global, house: &House, text: &str) -> Closed
         requires { length text.now ≤ most_text }
         ensures session { self.new.session ≡ self.old.session }
+        ensures book { self.new.book ≡ self.old.book }
         ensures told { self.new.told ≡ self.old.told }
         ensures looked { self.new.looked ≡ self.old.looked }
         ensures behind { self.new.behind ≡ self.old.behind }
+        ensures tells { self.new.tells ≡ self.old.tells }
         ensures out { LogsOut house.now.house text.now self.old.session self.old.out.items
             self.new.out.items }
     {
@@ -305,12 +382,16 @@ impl<'a> Connection<'a> {
     /// Takes the next frame that has come whole. A broken stream ends the session.
     pub(crate) fn next<R: Clock>(&mut self, rt: &R) -> Result<Brought, Closed>
         ensures brings { IfOk result
-            (Brings self.old.feed self.old.session self.new.session self.new.feed) }
+            (Brings (option_map (λ b. b.now) self.old.book) self.old.feed self.old.session
+            self.new.session self.new.feed) }
+        ensures book { self.new.book ≡ self.old.book }
         ensures told { self.new.told ≡ self.old.told }
         ensures looked { self.new.looked ≡ self.old.looked }
         ensures behind { self.new.behind ≡ self.old.behind }
+        ensures tells { self.new.tells ≡ self.old.tells }
         ensures out { self.new.out.items ≡ self.old.out.items }
     {
+        let was_on = self.session.firm().is_some();
         match self.feed.next() {
             None => Ok(Brought::Nothing),
             Some(Frame::Partial) => Ok(Brought::Nothing),
@@ -326,7 +407,10 @@ impl<'a> Connection<'a> {
                     &mut self.session,
                     Event::Message(fields),
                 ) {
-                    Ok(actions) => Ok(Brought::Message(actions)),
+                    Ok(actions) => {
+                        let is_on = self.session.firm().is_some();
+                        Ok(brought_by(was_on, is_on, actions, self.book, fields))
+                    }
                     Err(e) => Err(e),
                 }
             }
@@ -335,6 +419,23 @@ impl<'a> Connection<'a> {
                 Err(Closed)
             }
         }
+    }
+
+    /// Has reports begin above this entry, before one was sent.
+    pub(crate) fn begin_above(&mut self, number: u32)
+        ensures told { self.new.told ≡ number }
+        ensures looked { self.new.looked ≡ number }
+        ensures behind { self.new.behind ≡ self.old.behind }
+        ensures tells { self.new.tells ≡ true }
+        ensures session { self.new.session ≡ self.old.session }
+        ensures book { self.new.book ≡ self.old.book }
+        ensures feed { self.new.feed ≡ self.old.feed }
+        ensures out { self.new.out.items ≡ self.old.out.items }
+    {
+        self.told = number;
+        self.looked = number;
+        self.begun = Some(number);
+        self.tells = true;
     }
 
     /// Sends the answer to the call that waits, if one does, and the reports above the entry up to
@@ -354,11 +455,13 @@ impl<'a> Connection<'a> {
             self.new.out.items) }
         ensures err { OnErr result (self.new.out.items ≡ self.old.out.items) }
         ensures feed { self.new.feed ≡ self.old.feed }
+        ensures book { self.new.book ≡ self.old.book }
         ensures told { OnOk result (self.new.told ≡ last_told self.old.told reports.items) }
         ensures looked { OnOk result
             (self.new.looked ≡ looked_to self.old.looked entries reports.items) }
         ensures behind { OnOk result
             (self.new.behind ≡ nat_le most_reports (length reports.items)) }
+        ensures tells { OnOk result (self.new.tells ≡ true) }
         ensures same { (t : HouseTable) (h : List Entry) (f : List ℕ) → IsRunFrom t [] h
             → length h ≡ entries → HasLooked t.house h f self.old.told self.old.looked
             → reports.items ≡ reports_for t.house h f self.old.looked
@@ -378,10 +481,25 @@ impl<'a> Connection<'a> {
                 self.told = told;
                 self.looked = looked;
                 self.behind = behind;
+                self.tells = true;
                 Ok(())
             }
             Err(e) => Err(e),
         }
+    }
+
+    /// Begins a turn, which wasn't told of the book yet.
+    pub fn begin_turn(&mut self)
+        ensures { self.new ≡ record self.old { tells = false } }
+    {
+        self.tells = false;
+    }
+
+    /// Whether the turn was told of the book.
+    pub fn tells(&self) -> bool
+        ensures { result ≡ self.now.tells }
+    {
+        self.tells
     }
 
     /// How many bytes the turn sends so far.
@@ -389,6 +507,13 @@ impl<'a> Connection<'a> {
         ensures { result ≡ length self.now.out.items }
     {
         self.out.len()
+    }
+
+    /// How many bytes the bodies have of the messages that its session keeps to send them again.
+    pub fn kept_bytes(&self) -> usize
+        ensures { result ≡ bytes_of self.now.session.kept }
+    {
+        self.session.kept_bytes()
     }
 
     /// What the turn sends so far.
@@ -417,7 +542,7 @@ impl<'a> Connection<'a> {
 
     /// Writes what the turn sends, in one write. One that is short has waited for the peer as long
     /// as it may.
-    pub(crate) fn write<W: Write>(&mut self, to: &mut W) -> Result<(), Closed>
+    pub(crate) fn write<R: Clock, W: Write>(&mut self, rt: &R, to: &mut W) -> Result<(), Closed>
         ensures ok { OnOk result
             (Appends (W.contents to.old) (W.contents to.new) self.old.out.items) }
         ensures err { OnErr result ((n : ℕ)
@@ -425,15 +550,19 @@ impl<'a> Connection<'a> {
         ensures out { self.new.out.items ≡ [] }
         ensures session { self.new.session ≡ self.old.session }
         ensures feed { self.new.feed ≡ self.old.feed }
+        ensures book { self.new.book ≡ self.old.book }
         ensures told { self.new.told ≡ self.old.told }
         ensures looked { self.new.looked ≡ self.old.looked }
         ensures behind { self.new.behind ≡ self.old.behind }
+        ensures tells { self.new.tells ≡ self.old.tells }
     {
         let whole = self.out.len();
         if whole == 0 {
             return Ok(());
         }
+        let begun = Instant::now(rt).ok();
         let written = to.write(self.out.as_slice());
+        self.is_slow = self.is_slow || has_waited(rt, begun);
         self.out.clear();
         match written {
             Ok(count) => { if count == whole { Ok(()) } else { Err(Closed) } }

@@ -5,7 +5,10 @@
 //!   for what they call for, and puts what comes of them behind what the connection is to be sent.
 //! - A reading of reports begins at the entry up to which the connection's readings have looked,
 //!   and tells what one above the last report that was sent would tell.
-//! - A turn of `keep` ends after 64 messages, or where its span is over.
+//! - They begin with the first, or where the firm asks for it above a number of the book that it
+//!   names; where there is no such beginning a Logout says why.
+//! - A turn of `keep` ends after 64 messages, or where its span is over; no turn of `serve`, which
+//!   has none, ends so.
 //! - A connection that has no accepted Logon in time is ended, and a firm that is behind has its
 //!   next reports at once.
 //! - A session's timers go by a clock that doesn't jump. Where the wall clock has left it by more
@@ -14,6 +17,7 @@
 #![tactic(auto)]
 
 mod accepting;
+mod beginning;
 mod connection;
 mod lingering;
 mod look;
@@ -23,9 +27,10 @@ mod steady;
 mod worker;
 
 pub use accepting::{AfterFault, Faults, after_fault};
+pub use beginning::{Beginning, NoBeginning, asked};
 pub use connection::{Closed, Connection};
-pub use lingering::LINGER_WAIT;
+pub use lingering::{linger_wait, read_away, stays, takes_nothing};
 pub use opening::{LOGON_WAIT, Open, listening, new_key, prepare};
 pub use span::Span;
 pub use steady::SteadyClock;
-pub use worker::{Left, WRITE_WAIT, Worker, expire};
+pub use worker::{Left, Worker, expire};

@@ -1,5 +1,7 @@
 //! How long a turn of `keep` takes messages.
 
+ghost use Rattle.std.specs.Prelude.{IsTrue, is_some};
+
 use gu_limits::is_spent;
 use std::time::{Clock, Instant};
 
@@ -22,7 +24,9 @@ impl Span {
 
 /// Whether a turn that has taken so many messages takes no further one. One without a span takes
 /// all.
-pub(crate) fn is_over<R: Clock>(rt: &R, span: Option<Span>, count: usize) -> bool {
+pub(crate) fn is_over<R: Clock>(rt: &R, span: Option<Span>, count: usize) -> bool
+    ensures { IsTrue result → IsTrue (is_some span) }
+{
     match span {
         Some(span) => count > 0 && is_spent(count as u64, span.used(rt), span.micros),
         None => false,

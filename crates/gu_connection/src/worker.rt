@@ -7,25 +7,31 @@
 //! those before it reads. A turn of `keep` has a span besides. Only the book is asked under the
 //! desk's lock: reading, decoding and writing are done without it. A connection that has no
 //! accepted Logon in time is ended.
-ghost use Rattle.std.specs.Prelude.{◌≡◌, ◌⊎◌, true, Some, is_some, IfOk, OnOk, OnErr};
+ghost use Rattle.std.specs.Prelude.{◌≡◌, ◌⊎◌, true, Some, is_some, length, IfOk, OnOk, OnErr};
 ghost use Rattle.gu_desk.specs.Begins.{BeginsWith};
-ghost use Rattle.gu_connection.specs.Asking.{Asks, Looks, AsksAtMost};
+ghost use Rattle.gu_desk.specs.Views.{SeatView};
+ghost use Rattle.gu_connection.specs.Asking.{Asks, Looks, LooksAtMost, AsksAtMost};
 ghost use Rattle.gu_connection.specs.Standing.{stands, comes};
 ghost use Rattle.gu_connection.specs.Turns.{Replies};
+ghost use Rattle.gu_connection.specs.Beginning.{within};
+ghost use Rattle.gu_connection.specs.Talks.{Begins, Enters};
 ghost use Rattle.gu_connection.specs.Talks.{Calls, Acts, TakesNext, IsOfRead, Ticks};
 ghost use Rattle.gu_connection.specs.Talks.{TakesAll, Idles, TakesOrIdles, Waits, TurnsRead, Turns};
+ghost use Rattle.gu_connection.specs.Talks.{IsSpentBy};
 ghost use Rattle.gu_connection.specs.Talks.{IsLoggedOut, ActsInPart, DoesNothing};
 ghost use Rattle.gu_connection.specs.Talks.{Breaks, Closes, TurnsAndCloses};
 ghost use Rattle.gu_connection.specs.Conversing.{talk_of, Rounds, RoundsAndCloses, Conversed};
 ghost use Rattle.gu_connection.specs.declared.worker.Left.TheVariants.{Nothing};
 
+use crate::beginning::Beginning;
 use crate::connection::{Brought, Closed, Connection};
-use crate::lingering::linger;
+use crate::lingering::{linger, linger_wait};
 use crate::look::sent_again;
 use crate::span::{Span, is_over};
 use gu_base::{AllocId, Answer, Command, FirmId};
-use gu_board::Tallies;
+use gu_board::{Tallies, parts_in};
 use gu_codec::MAX_FRAME_LEN;
+use gu_command::NamedBook;
 use gu_desk::{Desk, Gate, Job, Seat};
 use gu_parties::House;
 use gu_session::{Actions, Event};
@@ -53,7 +59,7 @@ const BEHIND_WAIT: u64 = 1;
 
 /// How long a firm may take nothing of what it is sent, in seconds: a write of `serve` waits no
 /// longer, and `keep` closes the connection.
-pub const WRITE_WAIT: u64 = 30;
+pub(crate) const WRITE_WAIT: u64 = 30;
 
 /// Sets how long a connection waits, and that what is written goes out at once.
 fn set_up(stream: &TcpStream) -> io::Result<()> {
@@ -135,6 +141,8 @@ pub struct Worker<'a, J: Job, R, G> {
     pub desk: &'a Desk<J>,
     /// The table of those who take part.
     pub house: &'a House,
+    /// The book that is served, where its name is read: not by `serve`.
+    pub book: Option<&'a NamedBook>,
     /// What each call passes before the book.
     pub gate: &'a G,
     /// What is counted of firms, for the limits of `keep`.
@@ -153,6 +161,7 @@ impl<'a, J: Job, R, G> Worker<'a, J, R, G> {
             alloc: self.alloc,
             desk: self.desk,
             house: self.house,
+            book: self.book,
             gate: self.gate,
             tallies: self.tallies,
             logon_wait: self.logon_wait,
@@ -192,12 +201,17 @@ impl<'a, J: Job, R: Wait + Clock, G: Gate> Worker<'a, J, R, G> {
 
     /// Counts a call that is to be made. Where the firm has as much as it may have, the call isn't
     /// made, and a Logout says so.
-    fn admit(&self, connection: &mut Connection<'_>, firm: &FirmId) -> Result<(), Closed>
+    fn admit(
+        &self,
+        connection: &mut Connection<'_>,
+        firm: &FirmId,
+        command: &Command,
+    ) -> Result<(), Closed>
         ensures ok { OnOk result (connection.new ≡ connection.old) }
         ensures err { OnErr result (IsLoggedOut self.now.house.now.house connection.old.session
             connection.old.out.items connection.new.out.items) }
     {
-        match self.tallies.begin_call(firm) {
+        match self.tallies.begin_call(firm, parts_in(command)) {
             Ok(()) => Ok(()),
             Err(ending) => {
                 Err(connection.log_out(self.rt, self.alloc, self.house, ending.text()))
@@ -224,13 +238,13 @@ impl<'a, J: Job, R: Wait + Clock, G: Gate> Worker<'a, J, R, G> {
         match answer {
             Ok(answer) => {
                 let is_entry = matches!(answer, Answer::Accepted { .. });
-                self.tallies.end_call(firm, is_entry);
+                self.tallies.end_call(firm, parts_in(command), is_entry);
                 self.tallies
                     .note_answer(self.rt, self.number, firm, id, &answer);
                 (seat, Ok(answer))
             }
             Err(_) => {
-                self.tallies.end_call(firm, false);
+                self.tallies.end_call(firm, parts_in(command), false);
                 (seat, Err(Closed))
             }
         }
@@ -260,7 +274,7 @@ impl<'a, J: Job, R: Wait + Clock, G: Gate> Worker<'a, J, R, G> {
         if !self.gate.before_book(self.number) {
             return (seat, Err(Closed));
         }
-        let Ok(()) = self.admit(connection, &firm) else {
+        let Ok(()) = self.admit(connection, &firm, command) else {
             return (seat, Err(Closed));
         };
         let (seat, answer) = self.ask(seat, &firm, id, command);
@@ -328,6 +342,85 @@ impl<'a, J: Job, R: Wait + Clock, G: Gate> Worker<'a, J, R, G> {
         }
     }
 
+    /// What a firm asks for that has just logged on, in the history that the seat has then seen.
+    /// The desk is asked where the number is past what the seat has seen: another one may have seen
+    /// more.
+    #[tactic(auto, using(crate::proofs::Seen::itself, crate::proofs::Seen::still))]
+    fn bound(&self, seat: Seat<J>, firm: &FirmId, asked: Beginning) -> (Seat<J>, Beginning)
+        ensures looks { LooksAtMost J.opening seat result.0 }
+        ensures later { BeginsWith result.0.seen seat.seen }
+        ensures bound { result.1 ≡ within (length result.0.seen) asked }
+    {
+        let Beginning::Above(number) = asked else {
+            return (seat, asked);
+        };
+        if number <= seat.seen() {
+            return (seat, asked);
+        }
+        let (seat, above) = self
+            .desk
+            .read_reports(self.rt, self.alloc, seat, firm, number);
+        drop(above);
+        let entries = seat.seen();
+        (seat, asked.within(entries))
+    }
+
+    /// Has the reports of a firm that has just logged on begin where it asks for, or a Logout say
+    /// why there is no such beginning.
+    #[tactic(auto, using(crate::proofs::Seen::itself, crate::proofs::Seen::still))]
+    fn begin(
+        &self,
+        seat: Seat<J>,
+        connection: &mut Connection<'_>,
+        asked: Beginning,
+    ) -> (Seat<J>, Result<(), Closed>)
+        ensures begins { OnOk result.1 (Begins J.opening asked (stands seat connection.old)
+            (stands result.0 connection.new)) }
+        ensures err { OnErr result.1 (IsLoggedOut self.now.house.now.house connection.old.session
+            connection.old.out.items connection.new.out.items) }
+        ensures looks { LooksAtMost J.opening seat result.0 }
+        ensures later { BeginsWith result.0.seen seat.seen }
+    {
+        let Some(firm) = connection.firm() else {
+            return (seat, Err(Closed));
+        };
+        let (seat, beginning) = self.bound(seat, &firm, asked);
+        match beginning {
+            Beginning::Above(number) => {
+                connection.begin_above(number);
+                (seat, Ok(()))
+            }
+            Beginning::Nowhere(why) => {
+                let closed = connection.log_out(self.rt, self.alloc, self.house, why.text());
+                (seat, Err(closed))
+            }
+        }
+    }
+
+    /// Does what the step of a Logon asks for that was accepted.
+    #[tactic(auto, using(crate::proofs::Seen::itself, crate::proofs::Seen::still))]
+    fn enter(
+        &self,
+        seat: Seat<J>,
+        connection: &mut Connection<'_>,
+        actions: Actions,
+        asked: Beginning,
+    ) -> (Seat<J>, Result<(), Closed>)
+        ensures enters { OnOk result.1 (Enters J.opening actions asked
+            (stands seat connection.old) (stands result.0 connection.new)) }
+        ensures err { OnErr result.1
+            (DoesNothing (stands seat connection.old) (stands result.0 connection.new)
+            ⊎ ActsInPart self.now.house.now.house J.opening actions (stands seat connection.old)
+            (stands result.0 connection.new)) }
+        ensures later { BeginsWith result.0.seen seat.seen }
+    {
+        self.count(connection, &actions);
+        match connection.send(&actions) {
+            Ok(()) => self.begin(seat, connection, asked),
+            Err(e) => (seat, Err(e)),
+        }
+    }
+
     /// Takes the next frame of the bytes held, if one has come whole: whether there was one.
     #[tactic(auto, using(crate::proofs::Seen::itself, crate::proofs::Seen::still))]
     fn take(
@@ -351,6 +444,13 @@ impl<'a, J: Job, R: Wait + Clock, G: Gate> Worker<'a, J, R, G> {
                     Err(e) => (seat, Err(e)),
                 }
             }
+            Ok(Brought::Logon(actions, asked)) => {
+                let (seat, entered) = self.enter(seat, connection, actions, asked);
+                match entered {
+                    Ok(()) => (seat, Ok(true)),
+                    Err(e) => (seat, Err(e)),
+                }
+            }
             Err(e) => (seat, Err(e)),
         }
     }
@@ -368,8 +468,25 @@ impl<'a, J: Job, R: Wait + Clock, G: Gate> Worker<'a, J, R, G> {
         Ok(())
     }
 
-    /// The end of a turn that has taken all messages: a Tick. It leaves this. Where the wall clock
-    /// has left the session's by too much, a Logout says so.
+    /// A Tick. It rests on the session alone: whatever a seat has seen, it is the same. Where the
+    /// wall clock has left the session's by too much, a Logout says so.
+    pub fn beat(&self, connection: &mut Connection<'_>) -> Result<(), Closed>
+        ensures ticks { OnOk result ((seat : SeatView)
+            → Ticks (stands seat connection.old) (stands seat connection.new)) }
+        ensures breaks { OnErr result ((seat : SeatView)
+            → Breaks self.now.house.now.house J.opening
+            (stands seat connection.old) (stands seat connection.new)) }
+    {
+        match connection.quiet(self.rt, Event::Tick) {
+            Ok(()) => match self.keep_time(connection) {
+                Ok(()) => Ok(()),
+                Err(e) => Err(e),
+            },
+            Err(e) => Err(e),
+        }
+    }
+
+    /// The end of a turn that has taken all messages: a Tick. It leaves this.
     #[tactic(auto, using(crate::proofs::Seen::itself, crate::proofs::Seen::still))]
     fn tick(
         &self,
@@ -383,11 +500,8 @@ impl<'a, J: Job, R: Wait + Clock, G: Gate> Worker<'a, J, R, G> {
             (stands seat connection.old) (stands result.0 connection.new)) }
         ensures same { result.0 ≡ seat }
     {
-        match connection.quiet(self.rt, Event::Tick) {
-            Ok(()) => match self.keep_time(connection) {
-                Ok(()) => (seat, Ok(left)),
-                Err(e) => (seat, Err(e)),
-            },
+        match self.beat(connection) {
+            Ok(()) => (seat, Ok(left)),
             Err(e) => (seat, Err(e)),
         }
     }
@@ -407,6 +521,7 @@ impl<'a, J: Job, R: Wait + Clock, G: Gate> Worker<'a, J, R, G> {
             (stands result.0 connection.new) l) }
         ensures closes { OnErr result.1 (Closes self.now.house.now.house J.opening
             (stands seat connection.old) (stands result.0 connection.new)) }
+        ensures unspent { IfOk result.1 (λ l. IsSpentBy (is_some span) l) }
         ensures later { BeginsWith result.0.seen seat.seen }
     {
         let mut seat = seat;
@@ -474,6 +589,7 @@ impl<'a, J: Job, R: Wait + Clock, G: Gate> Worker<'a, J, R, G> {
             (stands result.0 connection.new) l) }
         ensures closes { OnErr result.1 (Closes self.now.house.now.house J.opening
             (stands seat connection.old) (stands result.0 connection.new)) }
+        ensures unspent { IfOk result.1 (λ l. IsSpentBy (is_some span) l) }
         ensures later { BeginsWith result.0.seen seat.seen }
     {
         if self.is_late(connection) {
@@ -511,6 +627,7 @@ impl<'a, J: Job, R: Wait + Clock, G: Gate> Worker<'a, J, R, G> {
             (comes piece.now (stands seat connection.old)) (stands result.0 connection.new) l) }
         ensures closes { OnErr result.1 (Closes self.now.house.now.house J.opening
             (comes piece.now (stands seat connection.old)) (stands result.0 connection.new)) }
+        ensures unspent { IfOk result.1 (λ l. IsSpentBy (is_some span) l) }
         ensures later { BeginsWith result.0.seen seat.seen }
     {
         self.tallies.note_read(self.number, piece.len());
@@ -559,6 +676,7 @@ impl<'a, J: Job, R: Wait + Clock, G: Gate> Worker<'a, J, R, G> {
         ensures closes { OnErr result.1 (TurnsAndCloses self.now.house.now.house J.opening
             (S.remaining stream.old) (S.remaining stream.new) (stands seat connection.old)
             (stands result.0 connection.new)) }
+        ensures unspent { IfOk result.1 (λ l. IsSpentBy (is_some span) l) }
         ensures later { BeginsWith result.0.seen seat.seen }
     {
         let most = connection.room().min(piece.len());
@@ -587,6 +705,7 @@ impl<'a, J: Job, R: Wait + Clock, G: Gate> Worker<'a, J, R, G> {
         ensures closes { OnErr result.1 (TurnsAndCloses self.now.house.now.house J.opening
             (S.remaining stream.old) (S.remaining stream.new) (stands seat connection.old)
             (stands result.0 connection.new)) }
+        ensures unspent { IfOk result.1 (λ l. IsSpentBy (is_some span) l) }
         ensures later { BeginsWith result.0.seen seat.seen }
     {
         if left == Left::Untaken || left == Left::Spent {
@@ -622,7 +741,7 @@ impl<'a, J: Job, R: Wait + Clock, G: Gate> Worker<'a, J, R, G> {
         ensures later { BeginsWith result.0.seen seat.seen }
     {
         let (seat, turned) = self.turn(seat, connection, reader, piece, left, None);
-        match connection.write(writer) {
+        match connection.write(self.rt, writer) {
             Ok(()) => (seat, turned),
             Err(e) => (seat, Err(e)),
         }
@@ -675,7 +794,7 @@ impl<'a, J: Job, R: Wait + Clock, G: Gate> Worker<'a, J, R, G> {
         let Ok(taken) = Instant::now(self.rt) else {
             return Err(Closed);
         };
-        match Connection::new(self.alloc, self.house, false) {
+        match Connection::new(self.alloc, self.house, self.book, false) {
             Ok(connection) => Ok((connection, taken)),
             Err(e) => Err(e),
         }
@@ -689,7 +808,7 @@ impl<'a, J: Job, R: Wait + Clock, G: Gate> Worker<'a, J, R, G> {
                 let mut to: &TcpStream = &stream;
                 let seat = self.converse(seat, &mut connection, &mut from, &mut to, &stream, taken);
                 if connection.firm().is_some() {
-                    linger(self.rt, &stream);
+                    linger(self.rt, &stream, linger_wait(connection.is_slow()));
                 }
                 drop(connection);
                 seat

@@ -10,7 +10,13 @@ use Rattle.gu_connection.proofs.worker.Worker.act.Goals as goal
 pub returns-in-Some-clause-acts : goal.returns-in-Some-clause-acts
 returns-in-Some-clause-acts g c =
     let same : SameReadings c.args.connection.now c.send.new.self =
-    record { told = c.send.ensures.told; looked = c.send.ensures.looked; behind = c.send.ensures.behind } in
+    record {
+      book = c.send.ensures.book;
+      told = c.send.ensures.told;
+      looked = c.send.ensures.looked;
+      behind = c.send.ensures.behind;
+      tells = c.send.ensures.tells;
+    } in
     let sent : Standing = stands c.args.seat c.send.new.self in
     let behind : Standing = stands c.call.result.0 c.call.new.connection in
     let calls : OnOk c.call.result.1 (Calls g.J.Job.opening c.in-Some.id c.in-Some.command sent behind) =
@@ -23,7 +29,13 @@ returns-in-Some-clause-acts g c =
 pub returns-clause-acts : goal.returns-clause-acts
 returns-clause-acts g c =
     let same : SameReadings c.args.connection.now c.send.new.self =
-    record { told = c.send.ensures.told; looked = c.send.ensures.looked; behind = c.send.ensures.behind } in
+    record {
+      book = c.send.ensures.book;
+      told = c.send.ensures.told;
+      looked = c.send.ensures.looked;
+      behind = c.send.ensures.behind;
+      tells = c.send.ensures.tells;
+    } in
     sent_on g.J.Job.opening c.args.actions (stands c.args.seat c.args.connection.now)
     (stands c.args.seat c.send.new.self) c.in-None.is
     (said c.args.seat c.args.actions c.args.connection.now c.send.new.self c.send.ensures.session c.send.ensures.feed
@@ -37,7 +49,13 @@ returns-in_default-clause-err g c =
 pub returns-in-Some-clause-err : goal.returns-in-Some-clause-err
 returns-in-Some-clause-err g c =
     let same : SameReadings c.args.connection.now c.send.new.self =
-    record { told = c.send.ensures.told; looked = c.send.ensures.looked; behind = c.send.ensures.behind } in
+    record {
+      book = c.send.ensures.book;
+      told = c.send.ensures.told;
+      looked = c.send.ensures.looked;
+      behind = c.send.ensures.behind;
+      tells = c.send.ensures.tells;
+    } in
     let asks : OnErr c.call.result.1 (AsksAtMost g.J.Job.opening c.send.new.self.session.link.firm
     (Some (c.in-Some.id, c.in-Some.command)) c.args.seat c.call.result.0) =
     search rules in

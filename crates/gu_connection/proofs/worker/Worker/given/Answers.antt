@@ -8,7 +8,13 @@ use Rattle.gu_connection.proofs.worker.Worker.given.Goals as goal
 pub returns-in-Ok-clause-takes : goal.returns-in-Ok-clause-takes
 returns-in-Ok-clause-takes g c =
     let same : SameReadings c.args.connection.now c.push.new.self =
-    record { told = c.push.ensures.told; looked = c.push.ensures.looked; behind = c.push.ensures.behind } in
+    record {
+      book = c.push.ensures.book;
+      told = c.push.ensures.told;
+      looked = c.push.ensures.looked;
+      behind = c.push.ensures.behind;
+      tells = c.push.ensures.tells;
+    } in
     come c.messages.result.1 g.J.Job.opening c.args.piece.now (stands c.args.seat c.args.connection.now)
     (stands c.args.seat c.push.new.self) (stands c.messages.result.0 c.messages.new.connection)
     (came c.args.seat c.args.piece.now c.args.connection.now c.push.new.self c.push.ensures.session
@@ -17,7 +23,13 @@ returns-in-Ok-clause-takes g c =
 pub returns-in-Ok-clause-closes : goal.returns-in-Ok-clause-closes
 returns-in-Ok-clause-closes g c =
     let same : SameReadings c.args.connection.now c.push.new.self =
-    record { told = c.push.ensures.told; looked = c.push.ensures.looked; behind = c.push.ensures.behind } in
+    record {
+      book = c.push.ensures.book;
+      told = c.push.ensures.told;
+      looked = c.push.ensures.looked;
+      behind = c.push.ensures.behind;
+      tells = c.push.ensures.tells;
+    } in
     come_last c.messages.result.1 c.args.self.now.house.now.house g.J.Job.opening c.args.piece.now
     (stands c.args.seat c.args.connection.now) (stands c.args.seat c.push.new.self)
     (stands c.messages.result.0 c.messages.new.connection)

@@ -1,9 +1,10 @@
 use Rattle.std.proofs.Common.{refl, arith, subst, Bool}
+use Rattle.std.specs.Prelude.{is_some}
 use Rattle.gu_desk.proofs.Moves.{begins_with_all}
 use Rattle.gu_connection.specs.Standing.{Standing, stands}
-use Rattle.gu_connection.specs.Talks.{TakesNext}
+use Rattle.gu_connection.specs.Talks.{TakesNext, Ticks}
 use Rattle.gu_connection.proofs.Closing.{closed}
-use Rattle.gu_connection.proofs.Talking.{goes_on, rested}
+use Rattle.gu_connection.proofs.Talking.{goes_on, rested, unspent_read}
 use Rattle.gu_connection.proofs.worker.Worker.messages.Goals as goal
 
 pub returns-then-waiting-gt-MOST_WAITING-clause-takes : goal.returns-then-waiting-gt-MOST_WAITING-clause-takes
@@ -78,3 +79,9 @@ returns-then-not-some-clause-closes g c =
     closed c.tick.result.1 c.args.self.now.house.now.house g.J.Job.opening
     (stands c.args.seat c.args.connection.now) last next (stands c.tick.result.0 c.tick.new.connection)
     c.loop-count.invariant.talks (subst at c.if-not-some.true takes).1 c.tick.ensures.breaks
+
+pub returns-then-not-some-clause-unspent : goal.returns-then-not-some-clause-unspent
+returns-then-not-some-clause-unspent g c =
+    let ticks : Type 0 =
+    Ticks (stands c.take-back.result.0 c.take-back.new.connection) (stands c.tick.result.0 c.tick.new.connection) in
+    unspent_read c.tick.result.1 (is_some c.args.span) c.args.left ticks c.requires c.tick.ensures.ticks

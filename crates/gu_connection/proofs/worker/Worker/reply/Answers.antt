@@ -18,3 +18,4 @@ returns-in-Ok-clause-replies g c =
     replied sent.result t f c.args.answer c.in-Ok.reports.items c.seen-entries.result
     (Reply c.args.answer c.in-Ok.reports) (stands c.args.seat before) (stands seat sent.new.self) read
     c.seen-entries.ensures (refl, refl) sent.ensures.ok sent.ensures.told sent.ensures.looked sent.ensures.behind
+    sent.ensures.tells

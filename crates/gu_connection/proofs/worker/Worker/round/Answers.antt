@@ -8,7 +8,13 @@ use Rattle.gu_connection.proofs.worker.Worker.round.Goals as goal
 pub returns-in-Ok-clause-rounds : goal.returns-in-Ok-clause-rounds
 returns-in-Ok-clause-rounds g c =
     let same : SameReadings c.turn-seat.new.connection c.write.new.self =
-    record { told = c.write.ensures.told; looked = c.write.ensures.looked; behind = c.write.ensures.behind } in
+    record {
+      book = c.write.ensures.book;
+      told = c.write.ensures.told;
+      looked = c.write.ensures.looked;
+      behind = c.write.ensures.behind;
+      tells = c.write.ensures.tells;
+    } in
     let before : Talk =
     talk_of c.args.seat c.args.connection.now (g.S.Read.remaining c.args.reader.now)
     (g.W.Write.contents c.args.writer.now) c.args.left in
