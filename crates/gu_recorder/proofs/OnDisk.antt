@@ -7,7 +7,8 @@ use Rattle.gu_base.specs.Runs.{IsRunFrom}
 use Rattle.gu_base.specs.declared.entry.Entry.{Entry}
 use Rattle.gu_batch.specs.Output.{history_of}
 use Rattle.gu_desk.specs.Begins.{BeginsWith}
-use Rattle.gu_journal.specs.Keeping.{disk_of, Keeps, Stages}
+use Rattle.gu_journal.specs.Keeping.{disk_of, IsIdle, Keeps, Stages}
+use Rattle.gu_journal.specs.declared.group.Room.{Room}
 use Rattle.gu_journal.specs.declared.journal.Journal.{Journal}
 use Rattle.gu_recorder.specs.DiskJournals.{IsSaid, IsKept}
 use Rattle.gu_recorder.specs.Replicas.{HasAnswered, has_fewer, begun_count}
@@ -101,6 +102,32 @@ pub says_still : {D : Type 0} (seen : D → List ℕ) (may_leave : D → List �
     → IsSaid seen may_leave t h journal before → IsSaid seen may_leave t h journal after
 says_still seen may_leave t h journal before after still said =
     record { answered = still (length h) said.answered; pin = said.pin; kept = said.kept }
+
+-- a journal of which nothing but the room has changed takes further entries, as it did
+pub takes_refused : {D : Type 0} (is_usable : D → Bool) (old new : Journal D) (r : Room) → new ≡ record old { room = r }
+    → IsTrue (is_usable (disk_of old)) × IsIdle old → IsTrue (is_usable (disk_of new)) × IsIdle new
+takes_refused {D} is_usable old new r same takes =
+    subst (λ (j : Journal D). IsTrue (is_usable (disk_of j)) × IsIdle j) (sym same) takes
+
+-- and says what it said
+pub says_refused : {D : Type 0} (seen : D → List ℕ) (may_leave : D → List ℕ → Type 0) (t : House) (h : List Entry)
+    (old new : Journal D) (r : Room) (replica : Option Replica) → new ≡ record old { room = r }
+    → IsSaid seen may_leave t h old replica → IsSaid seen may_leave t h new replica
+says_refused {D} seen may_leave t h old new r replica same said =
+    let k = said.kept in
+    let kept : Keeps seen may_leave t said.pin h (record old { room = r }) = record {
+      bytes = k.bytes;
+      file = k.file;
+      is_journal = k.is_journal;
+      house = k.house;
+      next = k.next;
+      hashed = k.hashed;
+    } in
+    record {
+      answered = said.answered;
+      pin = said.pin;
+      kept = subst (λ (j : Journal D). Keeps seen may_leave t said.pin h j) (sym same) kept;
+    }
 
 -- a journal that was recovered, beside a copy of its house
 pub filed_says : {D : Type 0} (seen : D → List ℕ) (may_leave : D → List ℕ → Type 0) (is_clean : D → Bool)

@@ -1,6 +1,7 @@
 -- What is sent, and what is left.
 use Rattle.std.proofs.Common.{◌≡◌, ℕ, ◌+◌, List, [], ◌∷◌, ◌++◌, take, drop, length, refl, sym, ap, ◌∙◌, arith}
-use Rattle.std.proofs.Common.{length-append, append-nil, append_assoc, slice_index_or, ◌≤◌, Bool, IsTrue, leb, subst}
+use Rattle.std.proofs.Common.{length-append, append-nil, append_assoc, slice_index_or, ◌≤◌, Bool, true, false, not}
+use Rattle.std.proofs.Common.{IsTrue, leb, subst}
 use Rattle.std.proofs.lemmas.Bool.{le-leb}
 use Rattle.std.proofs.Math.Seq.{drop-append-add, take-append-add}
 use Rattle.std.proofs.lemmas.List.{drop-append-le, drop-map, map-append, take-append-drop, take-append-le}
@@ -9,7 +10,7 @@ use Rattle.gu_base.specs.declared.entry.Entry.{Entry}
 use Rattle.gu_desk.specs.Begins.{BeginsWith}
 use Rattle.gu_desk.specs.Views.{TicketView}
 use Rattle.gu_desk.proofs.Moves.{begins_itself, begins_with_all}
-use Rattle.gu_recorder.specs.Waiting.{bytes_of, made_of, RestOn, Sends}
+use Rattle.gu_recorder.specs.Waiting.{Outgoing, Together, bytes_of, last_of, made_of, RestOn, Sends}
 use Rattle.gu_recorder.specs.declared.made.MadeByte.{MadeByte}
 
 -- they are the bytes of what is left
@@ -22,39 +23,63 @@ left_bytes n bytes made same =
 pub left_rests : (n : ℕ) (made : List MadeByte) (h : List Entry) → RestOn made h → RestOn (drop n made) h
 left_rests n made h rests = All-drop (λ (m : MadeByte). BeginsWith h m.history) n made rests
 
+-- what a batch has sent, and what it has left
+abbrev pub batch : List MadeByte → Together → Outgoing
+batch sent b = record { sent = sent; waits = b.made; rests = b.seen }
+
+-- the same of both
+abbrev pub both : Bool → List MadeByte → Together → Together → Outgoing
+both into_back sent front back =
+    record { sent = sent; waits = front.made ++ back.made; rests = last_of into_back front back }
+
+-- what the last was made of stays where a batch does
+same_last : (b : Bool) (front left back : Together) → left.seen ≡ front.seen
+    → last_of b left back ≡ last_of b front back
+same_last true front left back e = refl
+same_last false front left back e = e
+
+-- and where both are turned round
+turned_last : (b : Bool) (front back now gone : Together) → gone.seen ≡ front.seen → now.seen ≡ back.seen
+    → last_of (not b) now gone ≡ last_of b front back
+turned_last true front back now gone e f = f
+turned_last false front back now gone e f = e
+
 -- a front of the front is one of both
-pub sends_front : (front back left before after : List MadeByte)
-    → Sends (record { sent = before; waits = front }) (record { sent = after; waits = left })
-    → Sends (record { sent = before; waits = front ++ back }) (record { sent = after; waits = left ++ back })
-sends_front front back left before after first = record {
+pub sends_front : (b : Bool) (front back left : Together) (before after : List MadeByte)
+    → Sends (batch before front) (batch after left) → Sends (both b before front back) (both b after left back)
+sends_front b front back left before after first = record {
   count = first.count;
-  within = omega (arith, length-append front back, first.within);
+  within = omega (arith, length-append front.made back.made, first.within);
   sent = first.sent ∙ ap (λ (l : List MadeByte). before ++ l)
-      (sym (take-append-le first.count front back first.within));
-  left = ap (λ (l : List MadeByte). l ++ back) first.left ∙ sym (drop-append-le first.count front back first.within);
+      (sym (take-append-le first.count front.made back.made first.within));
+  left = ap (λ (l : List MadeByte). l ++ back.made) first.left
+      ∙ sym (drop-append-le first.count front.made back.made first.within);
+  rests = same_last b front left back first.rests;
 }
 
 -- all of the front and a front of the back are a front of both
-pub sends_on : (front back now gone before between after : List MadeByte)
-    → gone ≡ []
-    → Sends (record { sent = before; waits = front }) (record { sent = between; waits = gone })
-    → Sends (record { sent = between; waits = back }) (record { sent = after; waits = now })
-    → Sends (record { sent = before; waits = front ++ back }) (record { sent = after; waits = now ++ gone })
-sends_on front back now gone before between after none first second =
+pub sends_on : (b : Bool) (front back now gone : Together) (before between after : List MadeByte)
+    → gone.made ≡ [] → Sends (batch before front) (batch between gone)
+    → Sends (batch between back) (batch after now)
+    → Sends (both b before front back) (both (not b) after now gone)
+sends_on b front back now gone before between after none first second =
     let m = second.count in
-    let whole : take first.count front ≡ front =
-    sym (append-nil (take first.count front)) ∙ ap (λ (l : List MadeByte). take first.count front ++ l)
-    (sym none ∙ first.left)
-    ∙ take-append-drop first.count front in
-    let all : between ≡ before ++ front = first.sent ∙ ap (λ (l : List MadeByte). before ++ l) whole in
+    let whole : take first.count front.made ≡ front.made =
+    sym (append-nil (take first.count front.made))
+    ∙ ap (λ (l : List MadeByte). take first.count front.made ++ l) (sym none ∙ first.left)
+    ∙ take-append-drop first.count front.made in
+    let all : between ≡ before ++ front.made = first.sent ∙ ap (λ (l : List MadeByte). before ++ l) whole in
     record {
-      count = length front + m;
-      within = omega (arith, length-append front back, second.within);
+      count = length front.made + m;
+      within = omega (arith, length-append front.made back.made, second.within);
       sent =
-          second.sent ∙ ap (λ (l : List MadeByte). l ++ take m back) all ∙ append_assoc before front (take m back)
-          ∙ ap (λ (l : List MadeByte). before ++ l) (sym (take-append-add front back m));
+          second.sent ∙ ap (λ (l : List MadeByte). l ++ take m back.made) all
+          ∙ append_assoc before front.made (take m back.made)
+          ∙ ap (λ (l : List MadeByte). before ++ l) (sym (take-append-add front.made back.made m));
       left =
-          ap (λ (l : List MadeByte). now ++ l) none ∙ append-nil now ∙ second.left ∙ sym (drop-append-add front back m);
+          ap (λ (l : List MadeByte). now.made ++ l) none ∙ append-nil now.made ∙ second.left
+          ∙ sym (drop-append-add front.made back.made m);
+      rests = turned_last b front back now gone first.rests second.rests;
     }
 
 -- what is made of a history has these bytes

@@ -15,7 +15,12 @@ use std::sync::Wait;
 use std::time::Clock;
 
 /// The recorder of a journal that says what the desk opened with.
-fn begin<K: OpenJournal, J: Job>(desk: &Desk<J>, journal: K, seat: JournalSeat<J>) -> Recorder<K, J>
+fn begin<K: OpenJournal, J: Job>(
+    alloc: Global,
+    desk: &Desk<J>,
+    journal: K,
+    seat: JournalSeat<J>,
+) -> Recorder<K, J>
     requires house { K.house journal ≡ J.opening.house }
     requires seen { seat.seen ≡ J.opening.history }
     requires says { K.says journal J.opening.history }
@@ -27,6 +32,7 @@ fn begin<K: OpenJournal, J: Job>(desk: &Desk<J>, journal: K, seat: JournalSeat<J
         journal,
         seat,
         failed: false,
+        room: Vec::new(alloc),
     }
 }
 
@@ -52,7 +58,7 @@ pub fn open_desk<K: OpenJournal + Drop, J: Job>(
             return Err(KeepError::Memory);
         }
     };
-    let recorder = begin(&desk, journal, seat);
+    let recorder = begin(alloc, &desk, journal, seat);
     Ok((desk, seats, recorder))
 }
 

@@ -9,10 +9,12 @@ ghost use Rattle.gu_book.specs.Seen.{stored};
 ghost use Rattle.gu_journal.specs.Keeping.{disk_of, IsIdle, Keeps};
 ghost use Rattle.gu_journal.specs.Session.{digest_text};
 ghost use Rattle.gu_recorder.specs.Replicas.{HasAnswered, HasWord};
+ghost use Rattle.gu_command.specs.declared.errors.RecordError.TheVariants as RecordError;
+ghost use Rattle.gu_journal.specs.declared.error.JournalError.TheVariants as JournalError;
 
 use crate::journals::{Checksum, OpenJournal};
 use crate::place::Place;
-use crate::replica::{Replica, allowed, answered, offered};
+use crate::replica::{Replica, allowed, answered, offered, waited};
 use gu_base::{Entry, Memory};
 use gu_book::{Book, HashKey};
 use gu_command::RecordError;
@@ -45,7 +47,9 @@ impl<D: Disk> Keeps for DiskJournal<D> {
 }
 
 /// Why a journal's fault keeps entries from being recorded.
-fn cause(error: JournalError) -> RecordError {
+fn cause(error: JournalError) -> RecordError
+    ensures { result ≡ RecordError.Memory → error ≡ JournalError.Memory }
+{
     match error {
         JournalError::Memory => RecordError::Memory,
         JournalError::Full => RecordError::Full,
@@ -87,6 +91,14 @@ impl<D: Disk> OpenJournal for DiskJournal<D> {
             }),
             Err(_) => None,
         }
+    }
+
+    fn waited(&self) -> Option<u64> {
+        waited(&self.replica)
+    }
+
+    fn bytes(&self) -> usize {
+        self.journal.len()
     }
 
     fn is_there(&self) -> bool {

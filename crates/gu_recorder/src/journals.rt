@@ -19,11 +19,12 @@ pub struct Checksum {
 
 /// A journal that is open: it says a history of a house, and takes further entries.
 pub trait OpenJournal: Keeps {
-    ghost use Rattle.std.specs.Prelude.{◌≡◌, List, ◌++◌, true, OnOk};
+    ghost use Rattle.std.specs.Prelude.{◌≡◌, List, ◌++◌, true, OnOk, IfErr};
     ghost use Rattle.gu_base.specs.House.{House as HouseTable};
     ghost use Rattle.gu_base.specs.Runs.{IsRunFrom};
     ghost use Rattle.gu_base.specs.declared.entry.Entry.{Entry};
     ghost use Rattle.gu_desk.specs.Begins.{BeginsWith};
+    ghost use Rattle.gu_command.specs.declared.errors.RecordError.TheVariants.{Memory as NoMemory};
 
     /// The house whose history it says.
     ghost house: { Self → HouseTable };
@@ -39,7 +40,8 @@ pub trait OpenJournal: Keeps {
     ///
     /// # Errors
     ///
-    /// As `RecordError` says; the journal takes no more then.
+    /// As `RecordError` says; the journal takes no more then, but for `Memory`, which leaves it as
+    /// it was.
     fn record(&mut self, moment: &[u8], entries: &[Entry]) -> Result<(), RecordError>
         requires { takes self.old }
         ensures takes { OnOk result (takes self.new) }
@@ -49,7 +51,10 @@ pub trait OpenJournal: Keeps {
             → OnOk result (says self.new (h ++ entries.now)) }
         ensures kept { (h : List Entry) → says self.old h
             → IsRunFrom (house self.old) h (h ++ entries.now)
-            → Self.Keeps.keeps self.new h };
+            → Self.Keeps.keeps self.new h }
+        ensures refused { IfErr result (λ e. e ≡ NoMemory → takes self.new) }
+        ensures still { (h : List Entry) → says self.old h
+            → IfErr result (λ e. e ≡ NoMemory → says self.new h) };
 
     /// The last word of the other machines is that the server may go on, if they have a say in it.
     ghost has_word: { Self → Type 0 };
@@ -66,6 +71,17 @@ pub trait OpenJournal: Keeps {
     /// Whether its file, if it has one, is where it was opened, and not shorter than what it says.
     fn is_there(&self) -> bool {
         true
+    }
+
+    /// For how many microseconds the last record has waited for other machines behind its disk.
+    /// None where there are none.
+    fn waited(&self) -> Option<u64> {
+        None
+    }
+
+    /// How many bytes its file has, but for what shuts it; 0 where it has no file.
+    fn bytes(&self) -> usize {
+        0
     }
 
     /// What an operator may compare its file with. None where it has no file, or memory lacks.

@@ -21,7 +21,7 @@ const BEGINS: &[u8] = b"8=FIX";
 const SOH: u8 = 1;
 
 /// Bytes to be sent, and a ticket for a history that begins with each that they were made of.
-/// Contracts see the bytes, each with its history.
+/// Contracts see the bytes, each with its history, and the ticket's.
 #[derive(Drop)]
 pub(crate) struct Batch<J: Job> {
     bytes: Vec<u8>,
@@ -30,13 +30,12 @@ pub(crate) struct Batch<J: Job> {
 }
 
 impl<J: Job> Model for Batch<J> {
-    ghost use Rattle.std.specs.Prelude.{◌≡◌, List};
-    ghost use Rattle.gu_recorder.specs.Waiting.{bytes_of, RestOn};
-    ghost use Rattle.gu_recorder.specs.declared.made.MadeByte.{MadeByte};
+    ghost use Rattle.std.specs.Prelude.{◌≡◌};
+    ghost use Rattle.gu_recorder.specs.Waiting.{Together, bytes_of, RestOn};
 
-    ghost Value = { List MadeByte };
+    ghost Value = { Together };
 
-    ghost view = { λ b. b.made.bytes };
+    ghost view = { λ b. record { made = b.made.bytes; seen = b.ticket.seen } };
 
     ghost invariant = { λ b. (b.bytes.items ≡ bytes_of b.made.bytes)
         × RestOn b.made.bytes b.ticket.seen };
@@ -54,21 +53,30 @@ pub enum Rest {
 }
 
 /// What is to be sent: a batch that is being sent, and one that was made since. Contracts see the
-/// bytes in order, each with the history that it was made of, and those that were sent.
+/// bytes in order, each with the history that it was made of, those that were sent, and the history
+/// that the last of all was made of.
 #[derive(Drop)]
 pub struct Outbox<J: Job> {
     front: Batch<J>,
     back: Batch<J>,
+    /// Whether the last was put into the back. Where it was put into the front, the back has none.
+    into_back: bool,
     sent: Made,
 }
 
 impl<J: Job> Model for Outbox<J> {
-    ghost use Rattle.std.specs.Prelude.{◌++◌};
-    ghost use Rattle.gu_recorder.specs.Waiting.{Outgoing};
+    ghost use Rattle.std.specs.Prelude.{◌≡◌, ◌++◌, false, []};
+    ghost use Rattle.gu_recorder.specs.Waiting.{Outgoing, last_of};
 
     ghost Value = { Outgoing };
 
-    ghost view = { λ o. record { sent = o.sent.bytes; waits = o.front ++ o.back } };
+    ghost view = { λ o. record {
+      sent = o.sent.bytes;
+      waits = o.front.made ++ o.back.made;
+      rests = last_of o.into_back o.front o.back;
+    } };
+
+    ghost invariant = { λ o. o.into_back ≡ false → o.back.made ≡ [] };
 }
 
 /// How many messages begin in these bytes, and one more where they begin within one.
@@ -95,7 +103,7 @@ fn pass(bytes: &mut Vec<u8>, count: usize)
 impl<J: Job> Batch<J> {
     /// A batch with nothing in it.
     fn new(alloc: Global, desk: &Desk<J>, seat: &mut Seat<J>) -> Batch<J>
-        ensures nothing { result ≡ [] }
+        ensures nothing { result ≡ record { made = []; seen = seat.old.seen } }
         ensures same { seat.new ≡ seat.old }
     {
         Batch {
@@ -107,14 +115,14 @@ impl<J: Job> Batch<J> {
 
     /// How many bytes it has.
     fn len(&self) -> usize
-        ensures { result ≡ length self.now }
+        ensures { result ≡ length self.now.made }
     {
         self.bytes.len()
     }
 
     /// Whether it has none.
     fn is_empty(&self) -> bool
-        ensures { IsTrue result ↔ (self.now ≡ []) }
+        ensures { IsTrue result ↔ (self.now.made ≡ []) }
     {
         self.bytes.is_empty()
     }
@@ -128,8 +136,10 @@ impl<J: Job> Batch<J> {
         connection: &mut Connection<'_>,
     ) -> Result<(), Closed>
         ensures same { seat.new ≡ seat.old }
-        ensures held { OnOk result
-            (self.new ≡ self.old ++ made_of connection.old.out.items seat.old.seen) }
+        ensures held { OnOk result (self.new ≡ record {
+          made = self.old.made ++ made_of connection.old.out.items seat.old.seen;
+          seen = seat.old.seen;
+        }) }
         ensures err { OnErr result (self.new ≡ self.old) }
         ensures out { OnOk result (connection.new.out.items ≡ []) }
     {
@@ -137,8 +147,26 @@ impl<J: Job> Batch<J> {
         if newer.seen() < self.ticket.seen() {
             return Err(Closed);
         }
-        let older = replace(&mut self.ticket, newer);
-        let _ = self.ticket.covers(desk, older);
+        let made = made_behind(&self.made, connection.made(), &newer);
+        match connection.hand_out(&mut self.bytes) {
+            Ok(()) => {
+                let older = replace(&mut self.ticket, newer);
+                let _ = self.ticket.covers(desk, older);
+                self.made = made;
+                Ok(())
+            }
+            Err(e) => Err(e),
+        }
+    }
+
+    /// Puts what a turn has made behind the bytes, which rests on no more than they do.
+    fn hold_still(&mut self, connection: &mut Connection<'_>) -> Result<(), Closed>
+        ensures held { OnOk result (self.new ≡ record self.old {
+          made = self.old.made ++ made_of connection.old.out.items self.old.seen;
+        }) }
+        ensures err { OnErr result (self.new ≡ self.old) }
+        ensures out { OnOk result (connection.new.out.items ≡ []) }
+    {
         let made = made_behind(&self.made, connection.made(), &self.ticket);
         match connection.hand_out(&mut self.bytes) {
             Ok(()) => {
@@ -152,9 +180,10 @@ impl<J: Job> Batch<J> {
     /// Writes what the peer takes now of the bytes, if what they rest on is kept.
     #[tactic(auto, using(crate::proofs::Waiting::left_bytes, crate::proofs::Waiting::left_rests))]
     fn send(&mut self, sent: &mut Made, desk: &Desk<J>, wire: &Wire) -> Result<Rest, Closed>
-        ensures sends { Sends (record { sent = sent.old.bytes; waits = self.old })
-            (record { sent = sent.new.bytes; waits = self.new }) }
-        ensures nothing { IfOk result (λ r. r ≡ Nothing → self.new ≡ []) }
+        ensures sends { Sends
+            (record { sent = sent.old.bytes; waits = self.old.made; rests = self.old.seen })
+            (record { sent = sent.new.bytes; waits = self.new.made; rests = self.new.seen }) }
+        ensures nothing { IfOk result (λ r. r ≡ Nothing → self.new.made ≡ []) }
     {
         if self.bytes.is_empty() {
             return Ok(Rest::Nothing);
@@ -180,12 +209,13 @@ impl<J: Job> Batch<J> {
 impl<J: Job> Outbox<J> {
     /// An outbox with nothing to be sent.
     pub fn new(alloc: Global, desk: &Desk<J>, seat: &mut Seat<J>) -> Outbox<J>
-        ensures nothing { result ≡ record { sent = []; waits = [] } }
+        ensures nothing { result ≡ record { sent = []; waits = []; rests = seat.old.seen } }
         ensures same { seat.new ≡ seat.old }
     {
         Outbox {
             front: Batch::new(alloc, desk, seat),
             back: Batch::new(alloc, desk, seat),
+            into_back: false,
             sent: nothing_made(),
         }
     }
@@ -223,9 +253,27 @@ impl<J: Job> Outbox<J> {
         ensures out { OnOk result (connection.new.out.items ≡ []) }
     {
         if self.is_empty() {
-            self.front.hold(desk, seat, connection)
+            self.front.hold(desk, seat, connection)?;
+            self.into_back = false;
         } else {
-            self.back.hold(desk, seat, connection)
+            self.back.hold(desk, seat, connection)?;
+            self.into_back = true;
+        }
+        Ok(())
+    }
+
+    /// Puts what tells nothing of the book behind what is to be sent: it was made of the session,
+    /// so of no more than the last before it, and waits for nothing newer.
+    pub fn hold_still(&mut self, connection: &mut Connection<'_>) -> Result<(), Closed>
+        ensures holds { OnOk result
+            (Holds self.old self.new connection.old.out.items self.old.rests) }
+        ensures err { OnErr result (self.new ≡ self.old) }
+        ensures out { OnOk result (connection.new.out.items ≡ []) }
+    {
+        if self.into_back {
+            self.back.hold_still(connection)
+        } else {
+            self.front.hold_still(connection)
         }
     }
 
@@ -237,6 +285,7 @@ impl<J: Job> Outbox<J> {
         match self.front.send(&mut self.sent, desk, wire) {
             Ok(Rest::Nothing) => {
                 swap(&mut self.front, &mut self.back);
+                self.into_back = !self.into_back;
                 self.front.send(&mut self.sent, desk, wire)
             }
             other => other,

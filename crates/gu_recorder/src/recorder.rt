@@ -7,6 +7,7 @@ ghost use Rattle.gu_desk.specs.Runs.{HasSeen};
 ghost use Rattle.gu_trace.specs.News.{is_news, is_told};
 
 use crate::journals::OpenJournal;
+use crate::replica::micros_since;
 use gu_base::{Entry, Memory};
 use gu_board::Board;
 use gu_command::{KeepError, RecordError};
@@ -27,6 +28,8 @@ pub struct Recorder<K: OpenJournal, J: Job> {
     pub(crate) journal: K,
     pub(crate) seat: JournalSeat<J>,
     pub(crate) failed: bool,
+    /// Room that is given back where memory lacks for a record, so that the next try has it.
+    pub(crate) room: Vec<u8>,
 }
 
 impl<K: OpenJournal, J: Job> Model for Recorder<K, J> {
@@ -47,6 +50,9 @@ impl<K: OpenJournal, J: Job> Model for Recorder<K, J> {
         × K.Keeps.keeps r.journal r.seat.kept
         × (r.failed ≡ false → K.takes r.journal × K.says r.journal r.seat.kept) };
 }
+
+/// How many bytes are kept free for a record where memory lacks.
+const ROOM: usize = 4 << 20;
 
 /// A law: what a ticket rests on whose receipt was met is kept by a journal that keeps what its
 /// seat knows to be durable.
@@ -73,23 +79,24 @@ pub(crate) fn moment<R: Clock>(rt: &R) -> Option<SendingTime> {
     }
 }
 
-/// Counts a group that is on the disk, and how long that took.
+/// Counts a group whose record has begun then, in a journal of so many bytes now: how long the disk
+/// took for it, and for how many microseconds it has waited for other machines behind that.
 fn count_group<R: Wait + Clock>(
     rt: &R,
     board: Option<&Board>,
     start: Option<Instant>,
+    waited: Option<u64>,
     group: &[Entry],
+    bytes: usize,
 ) {
     let Some(board) = board else {
         return;
     };
     board.keeps(rt, group);
-    let Some(start) = start else {
-        return;
-    };
-    if let Ok(took) = start.elapsed(rt) {
-        let micros = took.as_micros().min(u128::from(u64::MAX)) as u64;
-        board.recorded(rt, group.len() as u64, micros);
+    board.has_written(bytes as u64);
+    if let Some(start) = start {
+        let disk = micros_since(rt, start).saturating_sub(waited.unwrap_or(0));
+        board.recorded(rt, group.len() as u64, disk, waited);
     }
 }
 
@@ -135,6 +142,30 @@ impl<K: OpenJournal, J: Job> Recorder<K, J> {
         Ok(())
     }
 
+    /// Takes the room that a record may need where memory lacks: whether it has that.
+    pub fn prepare(&mut self, alloc: Global) -> bool
+        ensures { self.new ≡ self.old }
+    {
+        if self.room.capacity() >= ROOM {
+            return true;
+        }
+        match Vec::with_capacity(alloc, ROOM) {
+            Ok(room) => {
+                self.room = room;
+                true
+            }
+            Err(_) => false,
+        }
+    }
+
+    /// Gives that room back, since memory lacks.
+    fn give_back(&mut self, alloc: Global) -> KeepError
+        ensures same { self.new ≡ self.old }
+    {
+        self.room = Vec::new(alloc);
+        KeepError::Memory
+    }
+
     /// How many entries are known to be durable.
     pub fn kept(&self) -> u32
         ensures { result ≡ length self.now.kept }
@@ -166,6 +197,12 @@ impl<K: OpenJournal, J: Job> Recorder<K, J> {
 
     /// Records what the desk has answered since, counts it for an operator, and tells those that
     /// wait for it that it is kept.
+    ///
+    /// # Errors
+    ///
+    /// `Memory`, or `Clock` where this moment can't be told: nothing was recorded, and it may be
+    /// tried again, after `Memory` with the room that was taken before. After any other error
+    /// nothing more is recorded.
     pub fn record<R: Wait + Clock>(
         &mut self,
         rt: &R,
@@ -181,9 +218,8 @@ impl<K: OpenJournal, J: Job> Recorder<K, J> {
         let Some(sent) = moment(rt) else {
             return Err(KeepError::Clock);
         };
-        let start = Instant::now(rt).ok();
         let Ok(entries) = desk.copy_above(rt, alloc, &mut self.seat) else {
-            return Err(KeepError::Memory);
+            return Err(self.give_back(alloc));
         };
         let count = entries.len();
         if count == 0 {
@@ -193,12 +229,15 @@ impl<K: OpenJournal, J: Job> Recorder<K, J> {
             self.failed = true;
             return Err(KeepError::Record(RecordError::Gone));
         }
+        let start = Instant::now(rt).ok();
         match self.journal.record(sent.as_bytes(), entries.as_slice()) {
             Ok(()) => {
-                count_group(rt, board, start, entries.as_slice());
+                let (waited, bytes) = (self.journal.waited(), self.journal.bytes());
+                count_group(rt, board, start, waited, entries.as_slice(), bytes);
                 desk.confirm(&mut self.seat, &self.journal);
                 Ok(())
             }
+            Err(RecordError::Memory) => Err(self.give_back(alloc)),
             Err(error) => {
                 self.failed = true;
                 Err(KeepError::Record(error))

@@ -12,9 +12,8 @@ ghost use Rattle.gu_recorder.specs.Replicas.{answer_of, may_go, HasAnswered, Has
 use std::alloc::Global;
 use std::io;
 use std::io::{Read, Write};
-use std::net::Net;
 use std::os::unix::net::UnixStream;
-use std::time::Duration;
+use std::time::{Clock, Duration, Instant};
 
 /// How long a line may be silent, in seconds.
 const ANSWER_WAIT: u64 = 15;
@@ -32,10 +31,21 @@ const MAY_GO: &[u8] = b"yes\n";
 /// the server may go on: none at first.
 #[derive(Drop)]
 pub(crate) struct Replica {
+    rt: HostRuntime,
     line: UnixStream,
     alloc: Global,
+    /// For how many microseconds the last answer was waited for.
+    waited: u64,
     pub(crate) answer: Vec<u8>,
     pub(crate) word: Vec<u8>,
+}
+
+/// How many microseconds have passed since then.
+pub(crate) fn micros_since<R: Clock>(rt: &R, since: Instant) -> u64 {
+    match since.elapsed(rt) {
+        Ok(passed) => passed.as_micros().min(u128::from(u64::MAX)) as u64,
+        Err(_) => 0,
+    }
 }
 
 /// The next bytes of a line, so many; none where they don't come.
@@ -57,13 +67,15 @@ impl Replica {
     /// # Errors
     ///
     /// Nobody listens there, or memory ran out.
-    pub(crate) fn connect<N: Net>(net: &N, alloc: Global, path: &str) -> io::Result<Replica> {
-        let line = UnixStream::connect(net, path)?;
+    pub(crate) fn connect(rt: HostRuntime, alloc: Global, path: &str) -> io::Result<Replica> {
+        let line = UnixStream::connect(&rt, path)?;
         line.set_read_timeout(Some(Duration::from_secs(ANSWER_WAIT)))?;
         line.set_write_timeout(Some(Duration::from_secs(ANSWER_WAIT)))?;
         Ok(Replica {
+            rt,
             line,
             alloc,
+            waited: 0,
             answer: Vec::new(alloc),
             word: Vec::new(alloc),
         })
@@ -94,6 +106,22 @@ impl Replica {
         }
         self.answer = answer;
         true
+    }
+
+    /// This moment, if it can be told.
+    fn now(&self) -> Option<Instant> {
+        Instant::now(&self.rt).ok()
+    }
+
+    /// Notes that an answer was waited for since then.
+    fn note_waited(&mut self, since: Option<Instant>)
+        ensures answer { self.new.answer ≡ self.old.answer }
+        ensures word { self.new.word ≡ self.old.word }
+    {
+        self.waited = match since {
+            Some(since) => micros_since(&self.rt, since),
+            None => 0,
+        };
     }
 
     /// Has the line wait so many seconds for the next bytes: whether it does.
@@ -138,8 +166,21 @@ pub(crate) fn answered(replica: &mut Option<Replica>, entries: u32) -> bool
     ensures no { result ≡ false → (n : ℕ) → HasAnswered replica.old n → HasAnswered replica.new n }
 {
     match replica {
-        Some(replica) => replica.hear(entries),
+        Some(replica) => {
+            let since = replica.now();
+            let is_there = replica.hear(entries);
+            replica.note_waited(since);
+            is_there
+        }
         None => true,
+    }
+}
+
+/// For how many microseconds the last answer was waited for, if there are other machines.
+pub(crate) fn waited(replica: &Option<Replica>) -> Option<u64> {
+    match replica {
+        Some(replica) => Some(replica.waited),
+        None => None,
     }
 }
 

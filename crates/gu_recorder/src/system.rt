@@ -72,7 +72,7 @@ fn connected(rt: &HostRuntime, alloc: Global, path: Option<&str>) -> Result<Opti
     let Some(path) = path else {
         return Ok(None);
     };
-    match Replica::connect(rt, alloc, path) {
+    match Replica::connect(*rt, alloc, path) {
         Ok(replica) => Ok(Some(replica)),
         Err(error) => Err(unconnected(alloc, path, error)),
     }

@@ -1,3 +1,5 @@
+use Rattle.std.proofs.Common.{Bool, IsTrue, subst}
+use Rattle.gu_recorder.proofs.OnDisk.{takes_refused, says_refused}
 use Rattle.gu_recorder.proofs.OnDisk.{keeps_staged, staged_then, keeps_opened, keeps_answered, says_answered, has_all}
 use Rattle.gu_recorder.proofs.disk_journal.DiskJournalOpenJournal.record.Goals as goal
 
@@ -8,6 +10,20 @@ returns-in-Err-clause-kept g c h said run =
     keeps_staged g.D.Disk.seen g.D.Disk.may_leave g.D.Disk.is_clean was.house h c.args.entries.now was.journal
     c.stage.new.self was.replica
     c.stage.ensures.clean said c.stage.ensures.crash
+
+-- and where memory lacked nothing but the journal's room has changed
+pub returns-in-Err-clause-refused : goal.returns-in-Err-clause-refused
+returns-in-Err-clause-refused g c e =
+    takes_refused g.D.Disk.is_usable c.args.self.now.journal c.stage.new.self c.stage.new.self.room
+    (c.in-Err.ensures.refused (c.cause.ensures e)) c.requires
+
+pub returns-in-Err-clause-still : goal.returns-in-Err-clause-still
+returns-in-Err-clause-still g c h said e right =
+    let was = c.args.self.now in
+    let same = c.in-Err.ensures.refused (c.cause.ensures e) in
+    let before = subst (λ (b : Bool). IsTrue b) c.stage.ensures.clean right in
+    says_refused g.D.Disk.seen g.D.Disk.may_leave was.house h was.journal c.stage.new.self c.stage.new.self.room
+    was.replica same (said before)
 
 -- a group was staged, and couldn't be offered
 pub returns-then-not-offered-clause-kept : goal.returns-then-not-offered-clause-kept

@@ -12,5 +12,6 @@ pub returns-else-is_empty : goal.returns-else-is_empty
 returns-else-is_empty g c = (
   λ t. absurd (true≢false (sym (subst IsTrue c.if-is_empty.false t))),
   λ e. c.is_empty.ensures.1
-      (front_of_nothing c.self.inside.front c.self.inside.back (ap (λ (o : Outgoing). o.waits) c.self.view_is ∙ e)),
+      (front_of_nothing c.self.inside.front.made c.self.inside.back.made
+      (ap (λ (o : Outgoing). o.waits) c.self.view_is ∙ e)),
 )
