@@ -1,2 +1,3 @@
 mod Sent
 mod Runs
+mod Stillness

@@ -26,6 +26,9 @@ pub(crate) struct Bell {
 pub(crate) struct Bells {
     pub(crate) workers: Vec<Bell>,
     pub(crate) acceptor: Waker,
+    pub(crate) journal: Waker,
+    /// Whether a group is being written.
+    pub(crate) writes: AtomicBool,
     /// Whether the server is to end at once.
     pub(crate) stop: AtomicBool,
     pub(crate) words: Words,
@@ -75,6 +78,7 @@ impl Bells {
     pub(crate) fn end(&self) {
         self.stop.store(true, Ordering::SeqCst);
         let _ = self.acceptor.wake();
+        let _ = self.journal.wake();
         self.ring_all();
     }
 

@@ -1,17 +1,20 @@
 //! A connection that a worker serves beside others.
 
-ghost use Rattle.std.specs.Prelude.{◌≡◌, ◌⊎◌, [], IfOk, IsTrue};
+ghost use Rattle.std.specs.Prelude.{◌≡◌, ◌⊎◌, ◌+◌, ◌<◌, [], false, IfOk, IsTrue};
+ghost use Rattle.gu_connection.specs.Lasting.{most_untaken};
 ghost use Rattle.gu_desk.specs.Begins.{BeginsWith};
-ghost use Rattle.gu_keep.specs.Sending.{Turns};
+ghost use Rattle.gu_keep.specs.Sending.{Adds, Beats, IsBeat, IsStill, Turns};
 ghost use Rattle.gu_recorder.specs.Waiting.{Holds, Sends};
 
-use crate::lingering::read_away;
+use crate::lingering::MOST_READS;
 use crate::shares::place_of;
 use crate::stranger::Stranger;
 use crate::visit::Visit;
 use gu_base::FirmId;
 use gu_board::Tallies;
-use gu_connection::{Closed, Connection, LINGER_WAIT, Left, Span, WRITE_WAIT, Worker, expire};
+use gu_connection::{
+    Closed, Connection, Left, Span, Worker, expire, linger_wait, read_away, takes_nothing,
+};
 use gu_desk::{Gate, Job, Seat};
 use gu_limits::{Ending, is_silent};
 use gu_recorder::{Outbox, Rest, Wire};
@@ -32,8 +35,11 @@ pub(crate) struct Client<'a, J: Job> {
     outbox: Outbox<J>,
     taken: Instant,
     left: Left,
-    /// Whether it is closed once all is sent.
+    /// Whether it is closed once all is sent, and whether also where the peer doesn't take that.
     ended: bool,
+    cut: bool,
+    /// How many bytes are counted that wait for its firm here, or are kept to be sent again.
+    held: u64,
     /// Whether the peer took nothing when it was last written to, and whether it ever did so.
     full: bool,
     slow: bool,
@@ -80,9 +86,11 @@ pub(crate) fn open_client<'a, J: Job, R, G>(
     stranger: Stranger,
     second: u64,
 ) -> Result<Client<'a, J>, Closed>
-    ensures { IfOk result (λ c. c.outbox ≡ record { sent = []; waits = [] }) }
+    ensures { IfOk result
+        (λ c. c.outbox ≡ record { sent = []; waits = []; rests = seat.old.seen }) }
 {
-    let connection = Connection::new(worker.alloc, worker.house, worker.tallies.has_rate())?;
+    let may_wait = worker.tallies.has_rate();
+    let connection = Connection::new(worker.alloc, worker.house, worker.book, may_wait)?;
     let Stranger {
         wire,
         taken,
@@ -97,6 +105,8 @@ pub(crate) fn open_client<'a, J: Job, R, G>(
         taken,
         left: Left::Unread,
         ended: false,
+        cut: false,
+        held: 0,
         full: false,
         slow: false,
         shut,
@@ -138,6 +148,14 @@ impl<'a, J: Job> Client<'a, J> {
     /// The firm that has logged on.
     pub(crate) fn firm(&self) -> Option<FirmId> {
         self.connection.firm()
+    }
+
+    /// The firm that has logged on, and above which entry its reports begin. None where there is no
+    /// such beginning.
+    pub(crate) fn begun(&self) -> Option<(FirmId, u32)> {
+        let firm = self.connection.firm()?;
+        let above = self.connection.begun()?;
+        Some((firm, above))
     }
 
     /// How many bytes wait to be sent.
@@ -209,11 +227,43 @@ impl<'a, J: Job> Client<'a, J> {
         has
     }
 
-    /// Ends its count as a connection of its firm.
+    /// How many bytes are counted that wait for its firm here, or are kept to be sent again.
+    pub(crate) fn held(&self) -> u64 {
+        self.held
+    }
+
+    /// Whether it has ended since too much waits for its firm.
+    pub(crate) fn is_cut(&self) -> bool {
+        self.cut
+    }
+
+    /// Counts so many bytes that wait for its firm here, or are kept to be sent again.
+    fn note_held(&mut self, tallies: &Tallies, bytes: usize)
+        ensures { self.new.outbox ≡ self.old.outbox }
+    {
+        if let Some(firm) = self.connection.firm() {
+            tallies.hold(&firm, self.held, bytes as u64);
+            self.held = bytes as u64;
+        }
+    }
+
+    /// Counts what waits for its firm here, or is kept to be sent again.
+    pub(crate) fn count_held(&mut self, tallies: &Tallies)
+        ensures { self.new.outbox ≡ self.old.outbox }
+    {
+        let bytes = self
+            .outbox
+            .len()
+            .saturating_add(self.connection.kept_bytes());
+        self.note_held(tallies, bytes);
+    }
+
+    /// Ends its count as a connection of its firm, and what is held for that.
     pub(crate) fn leave(&mut self, tallies: &Tallies)
         ensures { self.new.outbox ≡ self.old.outbox }
     {
         self.let_go(tallies);
+        self.note_held(tallies, 0);
         if let Some(firm) = self.counted {
             tallies.leave(&firm);
             self.counted = None;
@@ -223,7 +273,8 @@ impl<'a, J: Job> Client<'a, J> {
     /// Ends its count as a connection of its firm, where the peer sends no more, whatever it has
     /// left unread.
     fn give_back(&mut self, tallies: &Tallies)
-        ensures { self.new.outbox ≡ self.old.outbox }
+        ensures outbox { self.new.outbox ≡ self.old.outbox }
+        ensures connection { self.new.connection ≡ self.old.connection }
     {
         if !self.shut {
             return;
@@ -264,18 +315,22 @@ impl<'a, J: Job> Client<'a, J> {
     }
 
     /// Whether it is to be closed: it has ended and all is sent.
-    pub(crate) fn is_over(&self) -> bool {
+    pub(crate) fn is_over(&self) -> bool
+        ensures { IsTrue result → self.now.outbox.waits ≡ [] }
+    {
         self.ended && self.outbox.is_empty()
     }
 
     /// Whether its stream is to linger once it is closed: all is sent to a firm that had logged on.
-    pub(crate) fn lingers(&self) -> bool {
+    pub(crate) fn lingers(&self) -> bool
+        ensures { IsTrue result → self.now.outbox.waits ≡ [] }
+    {
         self.is_over() && self.connection.firm().is_some()
     }
 
     /// For how many seconds it lingers: longer for a peer that takes slowly.
     pub(crate) fn linger_wait(&self) -> u64 {
-        if self.slow { WRITE_WAIT } else { LINGER_WAIT }
+        linger_wait(self.slow)
     }
 
     /// How many messages it wasn't sent, or not to their end.
@@ -291,18 +346,12 @@ impl<'a, J: Job> Client<'a, J> {
 
     /// Puts what the turn has made into the outbox, made of what the seat has seen. Where memory
     /// runs out for it, the connection has ended.
-    fn hold<R, G>(&mut self, worker: &Worker<'a, J, R, G>, seat: &mut Seat<J>, second: u64)
+    fn hold<R, G>(&mut self, worker: &Worker<'a, J, R, G>, seat: &mut Seat<J>)
         ensures same { seat.new ≡ seat.old }
         ensures holds { Holds self.old.outbox self.new.outbox self.old.connection.out.items
             seat.old.seen
             ⊎ ((self.new.outbox ≡ self.old.outbox) × IsTrue self.new.ended) }
     {
-        if self.connection.waiting() == 0 {
-            return;
-        }
-        if self.outbox.is_empty() {
-            self.took = second;
-        }
         if self
             .outbox
             .hold(worker.desk, seat, &mut self.connection)
@@ -312,10 +361,81 @@ impl<'a, J: Job> Client<'a, J> {
         }
     }
 
+    /// Puts what the turn has made, if it has made anything, into the outbox, made of what the seat
+    /// has seen.
+    fn hold_told<R, G>(&mut self, worker: &Worker<'a, J, R, G>, seat: &mut Seat<J>, second: u64)
+        ensures same { seat.new ≡ seat.old }
+        ensures adds { Adds self.old.outbox self.new.outbox seat.old.seen }
+    {
+        if self.connection.waiting() == 0 {
+            return;
+        }
+        if self.outbox.is_empty() {
+            self.took = second;
+        }
+        self.hold(worker, seat);
+    }
+
+    /// Puts what was made that tells nothing of the book, if anything was, into the outbox: it
+    /// waits for nothing newer than the rest. Where memory runs out for it, the connection has
+    /// ended.
+    fn hold_still(&mut self, second: u64)
+        ensures { Holds self.old.outbox self.new.outbox self.old.connection.out.items
+            self.old.outbox.rests ⊎ (self.new.outbox ≡ self.old.outbox) }
+    {
+        if self.connection.waiting() == 0 {
+            return;
+        }
+        if self.outbox.is_empty() {
+            self.took = second;
+        }
+        if self.outbox.hold_still(&mut self.connection).is_err() {
+            self.ended = true;
+        }
+    }
+
+    /// Whether nothing is made that isn't in the outbox yet.
+    fn is_clear(&self) -> bool
+        ensures { IsTrue result → self.now.connection.out.items ≡ [] }
+    {
+        self.connection.made().is_empty()
+    }
+
+    /// One Tick of its session. Where that closes it, the connection has ended.
+    fn tick<R: Wait + Clock, G: Gate>(&mut self, worker: &Worker<'a, J, R, G>)
+        ensures beat { IsBeat worker.now.house.now.house J.opening self.old.connection
+            self.new.connection }
+        ensures same { self.new.outbox ≡ self.old.outbox }
+    {
+        match worker.beat(&mut self.connection) {
+            Ok(()) => {}
+            Err(_) => self.ended = true,
+        }
+    }
+
+    /// Has the session say what is due, without a reading, if nothing has come that is to be read.
+    pub(crate) fn beat<R: Wait + Clock, G: Gate>(
+        &mut self,
+        worker: &Worker<'a, J, R, G>,
+        second: u64,
+    )
+        ensures { Beats worker.now.house.now.house J.opening self.old.connection self.old.outbox
+            self.new.outbox }
+    {
+        if !self.may_turn() || self.left != Left::Nothing || !self.is_clear() {
+            return;
+        }
+        self.tick(worker);
+        self.note_end(worker.tallies);
+        self.hold_still(second);
+    }
+
     /// Notes why it has ended, if it has: what the last message says that the turn sends. No calls
     /// wait on it then.
     fn note_end(&mut self, tallies: &Tallies)
-        ensures { self.new.outbox ≡ self.old.outbox }
+        ensures outbox { self.new.outbox ≡ self.old.outbox }
+        ensures connection { self.new.connection ≡ self.old.connection }
+        ensures ended { self.new.ended ≡ self.old.ended }
     {
         if self.ended {
             self.visit.note_end(self.connection.made());
@@ -332,7 +452,8 @@ impl<'a, J: Job> Client<'a, J> {
 
     /// Notes that it has a turn in this second.
     fn begin_turn(&mut self, second: u64)
-        ensures { self.new.outbox ≡ self.old.outbox }
+        ensures outbox { self.new.outbox ≡ self.old.outbox }
+        ensures connection { self.new.connection ≡ self.old.connection }
     {
         self.turned = second;
         if self.speaks {
@@ -343,7 +464,8 @@ impl<'a, J: Job> Client<'a, J> {
 
     /// Counts it as a connection of its firm, once one has logged on: whether the firm may have it.
     fn enters<R, G>(&mut self, worker: &Worker<'a, J, R, G>, firm: &FirmId) -> bool
-        ensures { self.new.outbox ≡ self.old.outbox }
+        ensures outbox { self.new.outbox ≡ self.old.outbox }
+        ensures connection { self.new.connection ≡ self.old.connection }
     {
         if self.counted.is_some() || self.gave_back {
             return true;
@@ -359,7 +481,8 @@ impl<'a, J: Job> Client<'a, J> {
     /// Whether it is to be closed behind a turn: it has no Logon in time, or its firm has too many
     /// connections or has said nothing for too long, and is told so.
     fn ends<R: Clock, G>(&mut self, worker: &Worker<'a, J, R, G>, second: u64) -> bool
-        ensures { self.new.outbox ≡ self.old.outbox }
+        ensures outbox { self.new.outbox ≡ self.old.outbox }
+        ensures open { result ≡ false → self.new.connection ≡ self.old.connection }
     {
         let late = expire(
             worker.rt,
@@ -387,6 +510,33 @@ impl<'a, J: Job> Client<'a, J> {
         true
     }
 
+    /// Ends it, since too much waits for its firm, and it is told so.
+    #[tactic(auto, using(gu_connection::proofs::Seen::itself, gu_connection::proofs::Seen::still))]
+    pub(crate) fn cut<R: Clock, G>(
+        &mut self,
+        worker: &Worker<'a, J, R, G>,
+        seat: &mut Seat<J>,
+        second: u64,
+    )
+        ensures same { seat.new ≡ seat.old }
+        ensures adds { Adds self.old.outbox self.new.outbox seat.old.seen }
+    {
+        let ending = Ending::Held;
+        self.cut = true;
+        if self.ended {
+            return;
+        }
+        if let Some(firm) = self.connection.firm() {
+            worker.tallies.note(&firm, ending);
+        }
+        let _ = self
+            .connection
+            .log_out(worker.rt, worker.alloc, worker.house, ending.text());
+        self.ended = true;
+        self.note_end(worker.tallies);
+        self.hold_told(worker, seat, second);
+    }
+
     /// What a turn leaves that knows of this: where the peer sends no more, also the end of what
     /// it has sent.
     fn left_by(&self, left: Left) -> Left {
@@ -402,7 +552,7 @@ impl<'a, J: Job> Client<'a, J> {
         ensures { self.new.outbox ≡ self.old.outbox }
     {
         if self.ended {
-            let _ = read_away(&mut self.wire);
+            let _ = read_away(&mut self.wire, MOST_READS);
         }
     }
 
@@ -417,6 +567,8 @@ impl<'a, J: Job> Client<'a, J> {
     ) -> Seat<J>
         ensures later { BeginsWith result.seen seat.seen }
         ensures same { self.new.outbox ≡ self.old.outbox }
+        ensures still { self.new.ended ≡ false → self.new.connection.tells ≡ false
+            → IsStill J.opening self.old.connection self.new.connection }
     {
         self.begin_turn(second);
         let (seat, turned) = worker.turn(
@@ -449,15 +601,22 @@ impl<'a, J: Job> Client<'a, J> {
         span: Span,
     ) -> Seat<J>
         ensures later { BeginsWith result.seen seat.seen }
-        ensures turns { Turns self.old.outbox self.new.outbox result.seen }
+        ensures turns { Turns J.opening self.old.connection self.old.outbox self.new.outbox
+            result.seen }
     {
         self.give_back(worker.tallies);
         if !self.may_turn() {
             self.drain();
             return seat;
         }
+        let is_clear = self.is_clear();
+        self.connection.begin_turn();
         let mut seat = self.work(worker, seat, piece, second, span);
-        self.hold(worker, &mut seat, second);
+        if is_clear && !self.ended && !self.connection.tells() {
+            self.hold_still(second);
+        } else {
+            self.hold_told(worker, &mut seat, second);
+        }
         seat
     }
 
@@ -470,6 +629,9 @@ impl<'a, J: Job> Client<'a, J> {
         ensures { Sends self.old.outbox self.new.outbox }
     {
         self.sends = false;
+        if self.full && self.cut {
+            return Err(Closed);
+        }
         if self.full {
             return Ok(Rest::Untaken);
         }
@@ -481,7 +643,7 @@ impl<'a, J: Job> Client<'a, J> {
         }
         self.full = rest == Rest::Untaken;
         self.slow = self.slow || self.full;
-        if self.is_over() {
+        if self.is_over() || (self.full && self.cut) {
             return Err(Closed);
         }
         Ok(rest)
@@ -502,12 +664,13 @@ impl<'a, J: Job> Client<'a, J> {
 
     /// Whether the peer has taken nothing for so long that the connection is to be closed.
     pub(crate) fn is_stalled(&mut self, second: u64) -> bool
-        ensures { self.new.outbox ≡ self.old.outbox }
+        ensures outbox { self.new.outbox ≡ self.old.outbox }
+        ensures stalled { IsTrue result → self.old.took + most_untaken < second }
     {
         if self.outbox.is_empty() {
             return false;
         }
         self.full = false;
-        self.tried && second.saturating_sub(self.took) > WRITE_WAIT
+        takes_nothing(self.tried, self.took, second)
     }
 }

@@ -5,6 +5,7 @@ use crate::lingering::{Lingering, MOST_LINGERING};
 use crate::news::NewsBoard;
 use crate::shares::Shares;
 use crate::stranger::Stranger;
+use gu_base::FirmId;
 use gu_connection::Closed;
 use gu_desk::Job;
 use gu_parties::House;
@@ -95,6 +96,25 @@ impl<'a, J: Job> Clients<'a, J> {
             Some(Some(client)) => Some(client),
             _ => None,
         }
+    }
+
+    /// The place of the connection of a firm that holds most, and how many bytes it holds.
+    pub(crate) fn heaviest(&self, firm: &FirmId) -> Option<(usize, u64)> {
+        let mut found: Option<(usize, u64)> = None;
+        for at in 0..self.places.len() {
+            let Some(client) = self.at(at) else {
+                continue;
+            };
+            let held = client.held();
+            let is_more = match found {
+                Some((_, most)) => held > most,
+                None => held > 0,
+            };
+            if is_more && client.firm() == Some(*firm) {
+                found = Some((at, held));
+            }
+        }
+        found
     }
 
     /// Makes room in the lists for one connection more, so that each has all of them.

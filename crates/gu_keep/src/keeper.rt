@@ -1,10 +1,10 @@
 //! A worker that serves many connections. In each round it waits until some are ready, has a turn
-//! with each of them, records what the desk has answered if nobody else does so now, and sends what
-//! may go out.
+//! with each of them, has what the desk has answered recorded, and sends what may go out.
 
 use crate::bells::{Bell, Bells};
 use crate::client::{Client, open_client};
 use crate::clients::Clients;
+use crate::scribe::record_alone;
 use crate::stranger::Stranger;
 use crossbeam_channel::{Receiver, TryRecvError};
 use gu_board::Work;
@@ -37,7 +37,7 @@ const MOST_TAKEN: usize = 64;
 const MOST_UNNAMED: usize = 2_048;
 
 /// After how many milliseconds those on which calls wait are asked again.
-const LATE_WAIT: u64 = 16;
+pub(crate) const LATE_WAIT: u64 = 16;
 
 /// A worker, and what it has for its connections.
 #[derive(Drop)]
@@ -62,10 +62,14 @@ struct Round<J: Job> {
     /// it last had a tick.
     millis: u64,
     second: u64,
-    /// When those on which calls wait were last asked, in 16 milliseconds.
-    asked: u64,
-    /// What the newest bytes that were made rest on.
+    /// When those on which calls wait were last asked, in 16 milliseconds, and when others were
+    /// last woken since too much waits for a firm.
+    late_asked: u64,
+    rang: u64,
+    /// What the newest bytes that were made rest on, and how many entries the journal was asked to
+    /// record last.
     newest: Ticket<J>,
+    asked_for: u32,
 }
 
 /// Notes which connections are ready, and whether the worker was woken.
@@ -104,8 +108,8 @@ fn hurry<J: Job>(clients: &mut Clients<'_, J>, round: &mut Round<J>) {
             let _ = round.ready.push(at);
         }
     }
-    if round.millis / LATE_WAIT != round.asked {
-        round.asked = round.millis / LATE_WAIT;
+    if round.millis / LATE_WAIT != round.late_asked {
+        round.late_asked = round.millis / LATE_WAIT;
         clients.ask_late(&mut round.ready);
     }
 }
@@ -113,7 +117,8 @@ fn hurry<J: Job>(clients: &mut Clients<'_, J>, round: &mut Round<J>) {
 /// Why a connection has ended, if it isn't over: what is over knows itself why.
 fn ended_by<J: Job>(client: Option<&Client<'_, J>>) -> Option<&'static str> {
     match client {
-        Some(client) if client.is_over() || client.visit.is_gone() => None,
+        Some(client) if client.is_over() || client.is_cut() => None,
+        Some(client) if client.visit.is_gone() => None,
         _ => Some("cannot be written to"),
     }
 }
@@ -195,8 +200,8 @@ impl<'a, K: OpenJournal, J: Job, R: Wait + Clock, G: Gate> Keeper<'a, K, J, R, G
             return;
         };
         let rt = self.worker.rt;
-        match client.firm() {
-            Some(firm) => {
+        match client.begun() {
+            Some((firm, _)) => {
                 let left = client.messages_left();
                 client.visit.say_end(rt, board, &firm, second, why, left)
             }
@@ -275,14 +280,15 @@ impl<'a, K: OpenJournal, J: Job, R: Wait + Clock, G: Gate> Keeper<'a, K, J, R, G
     /// Counts what a turn has done, and says that a firm has logged on, if it has. The worker is
     /// well.
     fn end_turn(&self, client: &mut Client<'a, J>, before: (Work, usize), piece: &[u8]) {
+        client.count_held(self.worker.tallies);
         let Some(board) = self.worker.tallies.board() else {
             return;
         };
         board.turns(self.worker.number);
         client.visit.end(board, self.worker.number, before.0, piece);
         board.waits(before.1, client.waiting());
-        if let Some(firm) = client.firm() {
-            client.visit.say_logon(self.worker.rt, board, &firm);
+        if let Some((firm, above)) = client.begun() {
+            client.visit.say_logon(self.worker.rt, board, &firm, above);
         }
     }
 
@@ -320,6 +326,21 @@ impl<'a, K: OpenJournal, J: Job, R: Wait + Clock, G: Gate> Keeper<'a, K, J, R, G
             self.close(clients, at, second, ended_by(clients.at(at)));
         }
         seat
+    }
+
+    /// Has the session at a place say what is due, without a reading.
+    fn beat(&self, clients: &mut Clients<'a, J>, second: u64, at: usize) {
+        let mut over = false;
+        if let Some(Some(client)) = clients.places.get_mut(at) {
+            let before = self.begin_turn(client);
+            client.beat(&self.worker, second);
+            self.end_turn(client, before, &[]);
+            over = client.is_over();
+        }
+        clients.list(at);
+        if over {
+            self.close(clients, at, second, ended_by(clients.at(at)));
+        }
     }
 
     /// A turn with each that is ready.
@@ -360,6 +381,8 @@ impl<'a, K: OpenJournal, J: Job, R: Wait + Clock, G: Gate> Keeper<'a, K, J, R, G
 
     /// Each second: a turn with each connection that had none, the end of those whose peer takes
     /// nothing, and of strangers that stay it, and a word on those that were closed for a limit.
+    /// What sessions say by themselves is made before the turn's reading, and where a group is
+    /// being written there is no reading, so that it waits for no group.
     fn tick(&self, seat: Seat<J>, clients: &mut Clients<'a, J>, round: &mut Round<J>) -> Seat<J> {
         self.worker.tallies.tell(self.worker.rt);
         let mut seat = seat;
@@ -373,76 +396,46 @@ impl<'a, K: OpenJournal, J: Job, R: Wait + Clock, G: Gate> Keeper<'a, K, J, R, G
                 _ => false,
             };
             if quiet {
-                seat = self.turn(seat, clients, &mut round.piece, second, at);
+                self.beat(clients, second, at);
+                if !self.bells.writes.load(Ordering::SeqCst) {
+                    seat = self.turn(seat, clients, &mut round.piece, second, at);
+                }
             }
         }
         seat
     }
 
-    /// Records what the desk has answered. Before, and after a group that took long, a further word
-    /// is asked for, if that is due.
-    fn record_by(&self, recorder: &mut Recorder<K, J>) -> Result<(), KeepError> {
-        let worker = &self.worker;
-        let words = &self.bells.words;
-        words.renew(worker.rt, recorder)?;
-        let before = recorder.kept();
-        recorder.record(worker.rt, worker.alloc, worker.desk, worker.tallies.board())?;
-        if recorder.kept() > before {
-            self.spread(recorder, before);
-        }
-        words.renew(worker.rt, recorder)
+    /// Whether it serves one connection at the most, so that nobody else waits for it.
+    fn is_alone(&self) -> bool {
+        self.bell.open.load(Ordering::SeqCst) <= 1
     }
 
-    /// Spreads what is kept now above an entry. Where memory lacks for that, it is heard with the
-    /// next tick.
-    fn spread(&self, recorder: &mut Recorder<K, J>, above: u32) {
-        let worker = &self.worker;
-        if let Ok(news) = recorder.news_above(worker.rt, worker.alloc, worker.desk, above) {
-            let bells = self.bells;
-            bells.news.spread(bells, news.as_slice(), self.bell.at);
+    /// Whether memory lacks for what is to be recorded.
+    fn lacks_memory(&self) -> bool {
+        match self.worker.tallies.board() {
+            Some(board) => board.lacks_memory(),
+            None => false,
         }
-    }
-
-    /// Records what the desk has answered, if nobody else does so now: whether it did.
-    fn record(&self) -> Result<bool, KeepError> {
-        let Some(mut guard) = self.recorder.try_lock() else {
-            return Ok(false);
-        };
-        let recorder = &mut *guard;
-        let board = self.worker.tallies.board();
-        if let Some(board) = board {
-            board.takes_journal();
-        }
-        let recorded = self.record_by(recorder);
-        if let Some(board) = board {
-            board.leaves_journal();
-        }
-        recorded?;
-        Ok(true)
-    }
-
-    /// Looks whether the journal is where it was, if nobody records now: a record looks too.
-    fn look(&self) -> Result<(), KeepError> {
-        let Some(mut guard) = self.recorder.try_lock() else {
-            return Ok(());
-        };
-        let recorder = &mut *guard;
-        recorder.look()
     }
 
     /// Has what the newest bytes rest on recorded, and a further word asked for, if that is due: by
-    /// this worker, where nobody else records now. Those that wait meanwhile are woken.
-    fn lead(&self, newest: &mut Ticket<J>) -> Result<(), KeepError> {
-        if newest.settle(self.worker.desk) && !self.bells.words.are_due(self.worker.rt)? {
+    /// this worker, if it serves nobody else and nobody else records now, or by the journal's
+    /// thread. Those that wait meanwhile are woken.
+    fn ask(&self, round: &mut Round<J>) -> Result<(), KeepError> {
+        let are_due = self.bells.words.are_due(self.worker.rt)?;
+        if round.newest.settle(self.worker.desk) && !are_due {
             self.bell.waits.store(false, Ordering::SeqCst);
             return Ok(());
         }
         // The mark goes up before the lock is tried: whoever has that looks at the marks after its
         // end.
         self.bell.waits.store(true, Ordering::SeqCst);
-        if self.record()? {
-            self.bell.waits.store(false, Ordering::SeqCst);
-            self.bells.ring_waiting();
+        if self.is_alone() {
+            return record_alone(&self.worker, self.recorder, self.bells, self.bell);
+        }
+        if are_due || round.newest.seen() > round.asked_for {
+            round.asked_for = round.newest.seen();
+            let _ = self.bells.journal.wake();
         }
         Ok(())
     }
@@ -451,6 +444,9 @@ impl<'a, K: OpenJournal, J: Job, R: Wait + Clock, G: Gate> Keeper<'a, K, J, R, G
     fn count_sent(&self, client: &mut Client<'a, J>, before: usize) {
         let after = client.waiting();
         client.visit.sends(before.saturating_sub(after));
+        if before != after {
+            client.count_held(self.worker.tallies);
+        }
         if let Some(board) = self.worker.tallies.board() {
             board.waits(before, after);
         }
@@ -482,15 +478,14 @@ impl<'a, K: OpenJournal, J: Job, R: Wait + Clock, G: Gate> Keeper<'a, K, J, R, G
         }
     }
 
-    /// Sends what may go out, once what it rests on is recorded, or another worker records it, and
-    /// while the other machines' word counts.
+    /// Has what waits recorded, and sends what may go out, while the other machines' word counts.
     fn tell(&self, clients: &mut Clients<'a, J>, round: &mut Round<J>) -> Result<(), KeepError> {
         let words = &self.bells.words;
         if clients.sending.is_empty() && !words.are_due(self.worker.rt)? {
             self.bell.waits.store(false, Ordering::SeqCst);
             return Ok(());
         }
-        self.lead(&mut round.newest)?;
+        self.ask(round)?;
         if words.count(self.worker.rt)? {
             self.send_all(clients, round.second);
         }
@@ -502,6 +497,46 @@ impl<'a, K: OpenJournal, J: Job, R: Wait + Clock, G: Gate> Keeper<'a, K, J, R, G
         if self.bell.news.swap(false, Ordering::SeqCst) {
             clients.hear();
         }
+    }
+
+    /// Ends the connection that holds most of those of a firm for which too much waits, if it is
+    /// this worker's. Where it may be another's, all are woken, each 16 milliseconds.
+    fn relieve(&self, seat: &mut Seat<J>, clients: &mut Clients<'a, J>, round: &mut Round<J>) {
+        let Some(firm) = self.worker.tallies.first_over() else {
+            return;
+        };
+        let found = clients.heaviest(&firm);
+        let held = match found {
+            Some((_, held)) => held,
+            None => 0,
+        };
+        let is_mine = self
+            .worker
+            .tallies
+            .is_heaviest(&firm, self.worker.number, held);
+        match found {
+            Some((at, _)) if is_mine => self.cut(seat, clients, round.second, at),
+            _ if round.millis / LATE_WAIT != round.rang => {
+                round.rang = round.millis / LATE_WAIT;
+                self.bells.ring_all();
+            }
+            _ => {}
+        }
+    }
+
+    /// Ends the connection at a place, since too much waits for its firm.
+    fn cut(&self, seat: &mut Seat<J>, clients: &mut Clients<'a, J>, second: u64, at: usize) {
+        if let Some(Some(client)) = clients.places.get_mut(at) {
+            if !client.is_cut() {
+                let before = client.waiting();
+                client.cut(&self.worker, seat, second);
+                client.count_held(self.worker.tallies);
+                if let Some(board) = self.worker.tallies.board() {
+                    board.waits(before, client.waiting());
+                }
+            }
+        }
+        clients.list(at);
     }
 
     /// Waits until a connection is ready, the worker is woken or a second is over.
@@ -517,7 +552,7 @@ impl<'a, K: OpenJournal, J: Job, R: Wait + Clock, G: Gate> Keeper<'a, K, J, R, G
             0
         } else if clients.some_rest() {
             1
-        } else if clients.has_late() {
+        } else if clients.has_late() || self.lacks_memory() {
             LATE_WAIT
         } else {
             1000 - round.millis % 1000
@@ -575,11 +610,9 @@ impl<'a, K: OpenJournal, J: Job, R: Wait + Clock, G: Gate> Keeper<'a, K, J, R, G
             if round.woken && coming {
                 coming = self.take_all(poll, clients, round.second);
             }
+            self.relieve(&mut mine, clients, round);
             round.newest = self.worker.desk.ticket(&mut mine);
             *seat = Some(mine);
-            if ticks {
-                self.look()?;
-            }
             self.tell(clients, round)?;
             self.hear(clients);
             if !coming && clients.is_empty() {
@@ -612,8 +645,10 @@ impl<'a, K: OpenJournal, J: Job, R: Wait + Clock, G: Gate> Keeper<'a, K, J, R, G
             piece,
             millis: 0,
             second: 0,
-            asked: 0,
+            late_asked: 0,
+            rang: 0,
             newest,
+            asked_for: 0,
         };
         let house = self.worker.house;
         let mut clients = Clients::new(alloc, house, &self.bells.news, self.bell.at);

@@ -2,8 +2,9 @@
 //!
 //! - A connection is a stranger until its first byte, which takes little memory.
 //! - Each worker polls its own connections and gives each that is ready a turn, which ends; the
-//!   connections of a firm share the time of one turn in a round. Whoever finds the
-//!   journal's lock free records what was answered, and asks for the other machines' word.
+//!   connections of a firm share the time of one turn in a round. A worker that serves nobody else
+//!   records what was answered, and asks for the other machines' word, or else a thread of the
+//!   journal, so that a slow group keeps nobody from the other connections.
 //! - Once a group is kept the workers are woken that have connections of a firm that it concerns,
 //!   and these connections have a turn.
 //! - The watch ends a server of which a part stands still, also in its start. It shuts the listener
@@ -24,11 +25,13 @@ mod pages;
 mod privacy;
 mod running;
 mod said;
+mod scribe;
 mod shares;
 mod shutter;
 mod starting;
 mod stepping;
 mod stranger;
+mod threads;
 mod visit;
 mod watch;
 mod words;

@@ -26,9 +26,9 @@ use std::time::Clock;
 /// What a worker's thread gives back.
 type Done<J> = (Option<Seat<J>>, Result<(), KeepError>);
 
-/// What the threads wake each other by, and the polls of the workers and of the thread that
-/// accepts.
-pub(crate) type Polls = (Bells, Vec<Poll>, Poll);
+/// What the threads wake each other by, and the polls of the workers, of the thread that accepts
+/// and of the journal's.
+pub(crate) type Polls = (Bells, Vec<Poll>, Poll, Poll);
 
 /// The polls of so many workers, who need the words of other machines or don't.
 pub(crate) fn make_polls<R: Net + Clock>(
@@ -51,14 +51,19 @@ pub(crate) fn make_polls<R: Net + Clock>(
     let Ok((poll, acceptor)) = make_poll(rt) else {
         return Err(KeepError::Poll);
     };
+    let Ok((journals, journal)) = make_poll(rt) else {
+        return Err(KeepError::Poll);
+    };
     let bells = Bells {
         workers: bells,
         acceptor,
+        journal,
+        writes: std::sync::atomic::AtomicBool::new(false),
         stop: std::sync::atomic::AtomicBool::new(false),
         words,
         news: NewsBoard::new(alloc),
     };
-    Ok((bells, polls, poll))
+    Ok((bells, polls, poll, journals))
 }
 
 /// A poll, and what wakes it.
@@ -133,10 +138,10 @@ fn next_keeper<'a, K: OpenJournal, J: Job, R, G>(
 }
 
 /// These, with news of the firms of a house.
-fn named(waits: Polls, house: &House) -> Result<Polls, KeepError> {
-    let (mut bells, polls, poll) = waits;
+pub(crate) fn named(waits: Polls, house: &House) -> Result<Polls, KeepError> {
+    let (mut bells, polls, poll, journals) = waits;
     match bells.news.name_all(house) {
-        Ok(()) => Ok((bells, polls, poll)),
+        Ok(()) => Ok((bells, polls, poll, journals)),
         Err(_) => Err(KeepError::Memory),
     }
 }
@@ -185,6 +190,14 @@ fn accept_and_join<J: Job, R: Threads + Wait + Clock>(
     seats
 }
 
+/// What the workers and the thread that accepts wait by.
+#[derive(Drop)]
+pub(crate) struct Waits<'a> {
+    pub(crate) bells: &'a Bells,
+    pub(crate) polls: Vec<Poll>,
+    pub(crate) poll: Poll,
+}
+
 /// Starts a worker for each seat, as this one but for its number, accepts the connections, and
 /// joins the workers. Gives the seats back.
 pub(crate) fn run_keepers<
@@ -195,14 +208,13 @@ pub(crate) fn run_keepers<
 >(
     first: Worker<'_, J, R, G>,
     listener: TcpListener,
-    waits: Polls,
+    waits: Waits<'_>,
     recorder: &Mutex<Recorder<K, J>>,
     seats: Vec<Seat<J>>,
     connections: u32,
 ) -> Result<Vec<Seat<J>>, KeepError> {
-    let (bells, polls, poll) = named(waits, first.house)?;
+    let Waits { bells, polls, poll } = waits;
     watch(&poll, &listener)?;
-    let bells = &bells;
     thread::scope(thread::scope_env(), first.rt, move |scope| {
         let mut handles: Vec<JoinHandle<Done<J>>> = Vec::new(first.alloc);
         let mut to: Vec<Sender<TcpStream>> = Vec::new(first.alloc);

@@ -8,11 +8,12 @@ ghost use Rattle.gu_desk.specs.Views.{is_worker_count};
 ghost use Rattle.gu_command.specs.Faults.{is_keep_fault};
 ghost use Rattle.gu_connection.specs.Serving.{IsServed};
 
-use crate::running::{Polls, make_polls, run_keepers};
+use crate::running::{Polls, make_polls};
 use crate::shutter::{Shutter, Watched};
+use crate::threads::run_threads;
 use gu_board::{Board, Tallies, Teller, number, text};
 use gu_book::Book;
-use gu_command::{Fault, KeepError, Order, fault_at};
+use gu_command::{Fault, KeepError, NamedBook, Order, fault_at};
 use gu_connection::{LOGON_WAIT, Open, Worker, listening, new_key, prepare};
 use gu_desk::{Ground, Job};
 use gu_limits::Limits;
@@ -28,12 +29,13 @@ use std::sync::{Arc, Mutex, Wait};
 use std::thread::Threads;
 use std::time::{Clock, Instant};
 
-/// Where connections come in, of which firms, what is counted of these, and after how many
-/// connections the server ends (0: never).
+/// Where connections come in, of which firms, to which book, what is counted of these, and after
+/// how many connections the server ends (0: never).
 #[derive(Drop)]
 struct Door<'a> {
     listener: TcpListener,
     house: &'a House,
+    named: &'a NamedBook,
     tallies: &'a Tallies,
     connections: u32,
 }
@@ -56,14 +58,12 @@ fn run_kept<K: OpenJournal + Drop + Send, J: Job + Send + Sync, R: Threads + Wai
     requires takes { K.takes journal }
     ensures { IfOk result (λ b. IsRunOf J.opening (stored b)) }
 {
-    let (desk, seats, recorder) = match open_desk::<K, J>(alloc, ground, journal) {
-        Ok(opened) => opened,
-        Err(error) => return Err(error),
-    };
+    let (desk, seats, recorder) = open_desk::<K, J>(alloc, ground, journal)?;
     let recorder = Mutex::new(recorder);
     let Door {
         listener,
         house,
+        named,
         tallies,
         connections,
     } = door;
@@ -72,12 +72,13 @@ fn run_kept<K: OpenJournal + Drop + Send, J: Job + Send + Sync, R: Threads + Wai
         alloc,
         desk: &desk,
         house,
+        book: Some(named),
         gate: &Open,
         tallies,
         logon_wait: LOGON_WAIT,
         number: 0,
     };
-    let served = run_keepers(first, listener, polls, &recorder, seats, connections);
+    let served = run_threads(first, listener, polls, &recorder, seats, connections);
     tallies.tell(rt);
     let seats = match served {
         Ok(seats) => seats,
@@ -118,14 +119,16 @@ fn count<R: Clock>(
 }
 
 /// What a line asks for of the server: the port, 1 to 16 workers, after how many connections it
-/// ends (0: never), whether other machines have a say in it, and what firms may have.
+/// ends (0: never), whether other machines have a say in it, what firms may have, and which book it
+/// is.
 #[derive(Clone, Copy)]
-struct Request {
+struct Request<'a> {
     port: u16,
     workers: u32,
     connections: u32,
     is_replicated: bool,
     limits: Limits,
+    named: &'a NamedBook,
 }
 
 /// Where connections come in, and what the server's threads wait by.
@@ -150,7 +153,7 @@ fn hand_over<R: Wait>(rt: &R, listener: &TcpListener, watched: &Watched) -> Resu
 fn listen<R: Net + Wait + Clock>(
     rt: &R,
     alloc: Global,
-    request: Request,
+    request: Request<'_>,
     watched: &Watched,
 ) -> Result<Entrance, KeepError> {
     let address = SocketAddr::from((Ipv4Addr::LOCALHOST, request.port));
@@ -173,7 +176,7 @@ fn serve_listener<K: OpenJournal + Drop + Send, R: Threads + Wait + Clock + Sync
     entrance: Entrance,
     book: Book,
     journal: K,
-    request: Request,
+    request: Request<'_>,
     board: &Arc<Board>,
 ) -> Result<Book, KeepError>
     requires workers { IsTrue (is_worker_count request.workers) }
@@ -201,6 +204,7 @@ fn serve_listener<K: OpenJournal + Drop + Send, R: Threads + Wait + Clock + Sync
     let door = Door {
         listener,
         house: &house,
+        named: request.named,
         tallies: &tallies,
         connections: request.connections,
     };
@@ -220,7 +224,7 @@ fn serve_kept<K: OpenJournal + Drop + Send, R: Threads + Wait + Clock + Net + Sy
     alloc: Global,
     book: Book,
     journal: K,
-    request: Request,
+    request: Request<'_>,
     watched: &Watched,
 ) -> Result<Book, KeepError>
     requires workers { IsTrue (is_worker_count request.workers) }
@@ -260,6 +264,7 @@ fn note_recovered<R: Wait + Clock>(
     let took = number(Key::Milliseconds, millis);
     match checksum {
         Some(checksum) => {
+            board.has_written(checksum.bytes as u64);
             let fields = [
                 entries,
                 number(Key::Bytes, checksum.bytes as u64),
@@ -335,6 +340,7 @@ pub(crate) fn keep_port<R: Threads + Wait + Clock + Net + RandomSource + Sync, K
         connections: order.connections,
         is_replicated: order.options.replica.is_some(),
         limits: order.options.limits,
+        named: &order.options.book,
     };
     let opened = open_journal(rt, alloc, journals, text, house, order, &watched.board);
     let (book, journal) = match opened {

@@ -131,8 +131,15 @@ impl Visit {
         self.sent = self.sent.saturating_add(bytes as u64);
     }
 
-    /// Says that a firm has logged on, if that wasn't said.
-    pub(crate) fn say_logon<R: Wait + Clock>(&mut self, rt: &R, board: &Board, firm: &FirmId) {
+    /// Says that a firm has logged on, if that wasn't said, and above which entry its reports begin
+    /// where they don't begin with the first.
+    pub(crate) fn say_logon<R: Wait + Clock>(
+        &mut self,
+        rt: &R,
+        board: &Board,
+        firm: &FirmId,
+        above: u32,
+    ) {
         if self.is_told {
             return;
         }
@@ -142,8 +149,14 @@ impl Visit {
             number(Key::Connection, self.number),
             text(Key::Firm, firm.as_bytes()),
             text(Key::Peer, self.peer.as_bytes()),
+            number(Key::Above, u64::from(above)),
         ];
-        board.say(rt, Event::LoggedOn, &fields);
+        let count = if above > 0 {
+            fields.len()
+        } else {
+            fields.len() - 1
+        };
+        board.say(rt, Event::LoggedOn, &fields[..count]);
     }
 
     /// Says that it has ended in this second without a Logon that was accepted, and why.
@@ -155,11 +168,16 @@ impl Visit {
         second: u64,
     ) {
         let first = self.first.as_slice();
+        let why = if self.why.is_empty() {
+            why_refused(house, first)
+        } else {
+            self.why.as_str()
+        };
         let fields = [
             number(Key::Connection, self.number),
             text(Key::Peer, self.peer.as_bytes()),
             text(Key::Said, said_by(first)),
-            text(Key::Why, why_refused(house, first).as_bytes()),
+            text(Key::Why, why.as_bytes()),
             number(Key::Seconds, second.saturating_sub(self.since)),
         ];
         board.say(rt, Event::LogonRefused, &fields);

@@ -99,6 +99,29 @@ fn run_workers<J: Job + Send + Sync, R: Threads + Wait + Clock + Sync, G: Gate +
     })
 }
 
+/// The first worker, with so many seconds for a Logon. It reads no book's name.
+fn first_worker<'a, J: Job, R, G>(
+    rt: &'a R,
+    alloc: Global,
+    desk: &'a Desk<J>,
+    house: &'a House,
+    gate: &'a G,
+    tallies: &'a Tallies,
+    logon_wait: u64,
+) -> Worker<'a, J, R, G> {
+    Worker {
+        rt,
+        alloc,
+        desk,
+        house,
+        book: None,
+        gate,
+        tallies,
+        logon_wait,
+        number: 0,
+    }
+}
+
 /// A desk over this ground, from its opening to its close.
 fn run_desk<J: Job + Send + Sync, R: Threads + Wait + Clock + Sync, G: Gate + Sync>(
     rt: &R,
@@ -123,16 +146,7 @@ fn run_desk<J: Job + Send + Sync, R: Threads + Wait + Clock + Sync, G: Gate + Sy
         }
     };
     let tallies = Tallies::none(alloc, house.house());
-    let first = Worker {
-        rt,
-        alloc,
-        desk: &desk,
-        house,
-        gate,
-        tallies: &tallies,
-        logon_wait: limits.logon_wait,
-        number: 0,
-    };
+    let first = first_worker(rt, alloc, &desk, house, gate, &tallies, limits.logon_wait);
     let seats = match run_workers(first, listener, seats, limits.connections) {
         Ok(seats) => seats,
         Err(error) => {

@@ -43,14 +43,21 @@ fn tell_place(rt: &HostRuntime, alloc: Global, place: &Option<StatusAt>) {
 fn tell_options(rt: &HostRuntime, alloc: Global, options: &KeepOptions) {
     let limits = &options.limits;
     tell_limit(rt, alloc, "most entries", limits.most_entries);
+    tell_limit(rt, alloc, "most parts", limits.most_parts);
     tell_limit(rt, alloc, "reserve", limits.reserve);
+    tell_limit(rt, alloc, "memory", limits.memory);
     tell_limit(rt, alloc, "rate", limits.rate);
     tell_limit(rt, alloc, "per firm", limits.per_firm);
+    tell_limit(rt, alloc, "held", limits.held);
     tell_path(rt, b", replicate ", &options.replica);
     tell_place(rt, alloc, &options.status);
     tell_place(rt, alloc, &options.more_status);
     if options.log_calls {
         say(rt, b", log calls");
+    }
+    tell_path(rt, b", book ", &options.book.name);
+    if options.book.is_asked {
+        say(rt, b", ask book");
     }
 }
 

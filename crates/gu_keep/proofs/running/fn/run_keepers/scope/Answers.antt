@@ -1,7 +1,12 @@
+use denote.Builtin.{u8}
 use denote.Param.{param}
 use denote.Param.Send.{IsSend, IsSync, param_send, sendable}
-use Rattle.std.proofs.Crossing.{crosses, send as heap_send}
+use denote.Ref.{ShrRef}
+use mir.Syntax.{named}
+use Rattle.std.proofs.Crossing.{crosses, send as heap_send, Vec-send}
 use Rattle.std.specs.contracts.alloc.Global as heap
+use Rattle.std.specs.contracts.option.Option.{the_row as OptionOf}
+use Rattle.std.specs.contracts.vec.Vec as Vec
 use Rattle.std.specs.contracts.impls.GlobalAllocator.TheImpl.{ghosts}
 use Rattle.std.specs.contracts.net.tcp.TcpStream as Stream
 use Rattle.std.specs.contracts.sync.Mutex as Mutex
@@ -11,6 +16,8 @@ use Rattle.crossbeam_channel.proofs.channel.Receiver.TheSendSync as receiver
 use Rattle.mio.proofs.poll.Poll.TheSendSync as poll
 use Rattle.gu_desk.proofs.Crossing.{desk_sync, seat_send, journal_send}
 use Rattle.gu_parties.proofs.house.House.TheSendSync as house
+use Rattle.gu_command.proofs.naming.NamedBook.TheSendSync as naming
+use Rattle.gu_command.specs.contracts.naming.NamedBook as NamedBook
 use Rattle.gu_board.proofs.tallies.Tallies.TheSendSync as tallies
 use Rattle.gu_keep.proofs.bells.Bells.TheSendSync as bells
 use Rattle.gu_keep.proofs.bells.Bell.TheSendSync as bell
@@ -19,8 +26,8 @@ use Rattle.gu_keep.proofs.running.fn.run_keepers.scope.Lts.{arg-14-1}
 use Rattle.gu_keep.proofs.running.fn.run_keepers.scope.Goals as goal
 
 -- A keeper may go to another thread with its poll and its seat, since each thing that it has may: its worker's, in
--- their order the runtime, the allocator, the desk, the house table, the gate, the tallies, how long it waits for a
--- Logon and its number; the recorder, all bells, its own, and its end of the channel.
+-- their order the runtime, the allocator, the desk, the house table, the book, the gate, the tallies, how long it
+-- waits for a Logon and its number; the recorder, all bells, its own, and its end of the channel.
 pub spawn-requires-send-F : goal.spawn-requires-send-F
 spawn-requires-send-F g c κs within =
     let journal : IsSend g.row.K = c.requires.1.1.1.1.0 in
@@ -30,10 +37,25 @@ spawn-requires-send-F g c κs within =
     let desk = desk_sync g.row.J g.J.Job g.J.Ledger in
     let part = journal_send (param 1 g.row.J) g.J.Job g.J.Ledger in
     let kept : IsSend (param 0 g.row.K) = param_send 0 g.row.K journal in
+    let room : IsSend (Vec.the_row u8 heap.the_row ghosts) = Vec-send u8 (search sendable) in
+    let book : (ℓ : _) (κ : _) → IsSend (OptionOf (ShrRef ℓ κ NamedBook.the_row)) =
+    λ ℓ κ. search (naming.the_sync, crosses, sendable) depth 12 in
     let recorded : IsSend
     (Recorder.the_row (param 0 g.row.K) (param 1 g.row.J) g.K.OpenJournal g.K.Keeps g.J.Job g.J.Ledger) =
     record {
-      owned = λ d vs t. ((λ vss. (tt, (kept.owned t.0.journal vss.0, (part.owned t.0.seat vss.1.0, (tt, tt))))), tt);
+      owned = λ d vs t. (
+        (λ vss. (
+          tt,
+          (
+            kept.owned t.0.journal vss.0,
+            (
+              part.owned t.0.seat vss.1.0,
+              (tt, (room.owned t.0.room vss.1.1.1.0, tt)),
+            ),
+          ),
+        )),
+        tt,
+      );
       leaving = λ k t w. tt;
     } in
     let recorder : IsSync
@@ -69,17 +91,20 @@ spawn-requires-send-F g c κs within =
                               d.0.worker.house.ref_ptr.1 _,
                         ),
                         (
-                          (
-                            tt,
-                            gate.shared d.0.worker.gate.now d.0.worker.gate.ref_ptr.0 d.0.worker.gate.ref_ptr.1 _,
-                          ),
+                          (book (named 0) _).owned d.0.worker.book uss.1.1.1.1.0,
                           (
                             (
                               tt,
-                              tallies.the_sync.shared d.0.worker.tallies.now d.0.worker.tallies.ref_ptr.0
-                                  d.0.worker.tallies.ref_ptr.1 _,
+                              gate.shared d.0.worker.gate.now d.0.worker.gate.ref_ptr.0 d.0.worker.gate.ref_ptr.1 _,
                             ),
-                            ((tt, tt), ((tt, tt), tt)),
+                            (
+                              (
+                                tt,
+                                tallies.the_sync.shared d.0.worker.tallies.now d.0.worker.tallies.ref_ptr.0
+                                    d.0.worker.tallies.ref_ptr.1 _,
+                              ),
+                              ((tt, tt), ((tt, tt), tt)),
+                            ),
                           ),
                         ),
                       ),
