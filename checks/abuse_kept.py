@@ -26,6 +26,9 @@ TRIES = 5  # of what has to be quick: on a busy machine one of them is
 HOUSE = f"{TOP}/examples/rows.house"
 CROWD, CROWD_CALLS, CROWD_SENDS = 200, 100, 8_000  # a firm's connections, the house's calls beside them, and what is sent on each
 MOST_CROWDED = 6  # the seconds for which calls are made beside them
+NARROW, MOST_HELD = 6, 16  # sessions that read nothing, and the megabytes that the server may take for a firm that may hold two
+MOST_CALL = 1  # the seconds that the house's call may take beside them
+REFUSING, MORE_SPACE = 7, 1 << 20  # the seconds of refused growths, and the bytes of address space that are left then
 MOST_BESIDE = 0.1  # the seconds that the house's calls may take beside them, where ten times those alone are less
 KNOCKERS, KNOCKS, KNOCKING, KNOCKERS_HOLD = 3, 4_200, 6, 4_000  # processes, and for each: connects a second, seconds, and connections
 
@@ -35,9 +38,12 @@ class Peer:
 
     def __init__(self, port, firm, name=""):
         self.firm, self.name, self.number, self.got = firm, name or firm, 1, b""
-        self.socket = socket.create_connection(("127.0.0.1", port), timeout=PATIENCE)
+        self.socket = self.connected(port)
         self.socket.setsockopt(socket.IPPROTO_TCP, socket.TCP_NODELAY, 1)
         self.send("A", "98=0|108=0|1137=9|")
+
+    def connected(self, port):
+        return socket.create_connection(("127.0.0.1", port), timeout=PATIENCE)
 
     def send(self, kind, rest=""):
         """Sends a message. If the connection is closed by then, what it was sent tells why."""
@@ -59,8 +65,8 @@ class Peer:
         except OSError:
             pass
 
-    def trade(self):
-        self.send("AE", f"571={self.name}{self.number}|55=ESZ6|32=1|552=1|54=1|453=1|448=AAA|447=D|452=4|1=A1|")
+    def trade(self, lots=1):
+        self.send("AE", f"571={self.name}{self.number}|55=ESZ6|32={lots}|552=1|54=1|453=1|448=AAA|447=D|452=4|1=A1|")
 
     def read(self, until=None, seconds=PATIENCE):
         """Reads until this was sent or the connection is closed: whether it was sent."""
@@ -94,12 +100,15 @@ class Peer:
 
 
 class Server:
-    """A server that keeps its book in the journal of a room, or serves one, with these words more."""
+    """A server that keeps its book in the journal of a room, or serves one, with these words more. A firm may have as many
+    connections as it likes, where the words don't say and nothing is as usual."""
 
-    def __init__(self, room, name, *words, kind="keep", workers=2, shell=(), env=()):
+    def __init__(self, room, name, *words, kind="keep", workers=2, shell=(), env=(), usual=False):
         self.port, self.journal = free_port(), f"{room}/{name}"
         self.told = open(f"{room}/{name}.told", "w+b")
         book = [HOUSE, self.journal] if kind == "keep" else [HOUSE]
+        if kind == "keep" and "--per-firm" not in words and not usual:
+            words = (*words, "--per-firm", "1000000")
         given = [ALLOCD, kind, *book, "--port", str(self.port), "--workers", str(workers), *words]
         env = dict(os.environ, **dict(env))
         self.process = subprocess.Popen([*shell, *given], stdout=subprocess.DEVNULL, stderr=self.told, env=env)
@@ -253,6 +262,210 @@ def connections(room):
         seconds = at_a_rate_together(both, 150)
         yield seconds is not None and seconds >= 4.5, f"300 calls at 50 a second on two connections take {seconds} s"
         yield min(a_call(houses[0]) for _ in range(TRIES)) < 1, "the house's call waits for none"
+
+
+def a_split(peer, id, node, parts):
+    """Sends a split of a trade of 100 lots into so many parts."""
+    lots = [100 // parts] * (parts - 1) + [100 - 100 // parts * (parts - 1)]
+    peer.send("J", f"70={id}|71=0|626=17|72={node}.0|78={parts}|" + "".join(f"79=A1|80={it}|" for it in lots))
+
+
+def parts(room):
+    """The limit on the parts of a firm's splits, those of reversed ones too, and after a start anew."""
+    with Server(room, "parts", "--most-parts", "150") as server:
+        house = server.peer("HSE")
+        for _ in range(5):
+            house.trade(100)
+            house.read(b"\x01939=0\x01")
+            house.got = b""
+        peer = server.peer("AAA", "A")
+        for id, node, count in (("S1", 1, 100), ("S2", 2, 50)):
+            a_split(peer, id, node, count)
+        peer.send("J", "70=I1|71=6|626=20|72=6|")
+        peer.send("J", "70=V1|71=6|626=21|72=6|")
+        a_split(peer, "S3", 3, 2)
+        peer.read(seconds=UNNAMED_WAIT)
+        made, text = peer.made(), peer.close().text()
+        well = (made, text) == (2, "too many parts") and b"\x0187=7\x01" in peer.got
+        yield well, f"beside splits of 100 and 50 parts, one of them reversed, one of 2 isn't made: {text}"
+    with Server(room, "parts", "--most-parts", "150") as server:
+        peer = server.peer("AAA", "B")
+        peer.read(b"\x0135=A\x01")
+        peer.send("J", "70=I2|71=6|626=20|72=7|")
+        peer.read(b"\x0170=I2\x01")
+        a_split(peer, "S4", 4, 2)
+        peer.read(seconds=UNNAMED_WAIT)
+        well = b"\x0187=14\x01" in peer.got and peer.close().text() == "too many parts"
+        yield well, "after a start anew too; a call without parts is made"
+        others = server.peer("BBB", "C")
+        others.raises(3)
+        others.send("5")
+        others.read(seconds=UNNAMED_WAIT)
+        yield others.close().accepted() == 3, "another firm makes its calls"
+
+
+def memory(room):
+    """The memory that a book may take: a tenth of it is the house's."""
+    entry = 254  # the bytes of an entry
+    with Server(room, "memory", "--memory", "1") as server:
+        count, text = called(server, "BBB", "B", 4_000)
+        most = 900_000 // entry
+        yield (count, text) == (most, "memory left is the house's"), f"of 4,000 calls of a firm {count} are made in a megabyte: {text}"
+        house = server.peer("HSE")
+        house.read(b"\x0135=A\x01")
+        for _ in range(500):
+            house.trade()
+        house.read(seconds=UNNAMED_WAIT)
+        made, text = house.close().got.count(b"\x01939=0\x01"), house.text()
+        yield (made, text) == (1_000_000 // entry - most, "no memory left"), f"of 500 of the house {made}: {text}"
+        yield server.says_soon("event=at_limit firm=HSE why=\"no memory left\""), "the log says so"
+
+
+class Deaf(Peer):
+    """One that asks for resends and reads nothing, and what the socket hasn't taken of that."""
+
+    def __init__(self, port, name=""):
+        super().__init__(port, "BBB", name)
+        self.unsent = b""
+        self.read(b"\x0135=A\x01")
+        self.socket.setblocking(False)
+
+    def ask(self):
+        """Asks as far as the socket takes it: whether the server still has the connection."""
+        for _ in range(100):
+            if not self.unsent:
+                self.unsent = message("2", "BBB", self.number, "7=1|16=0|")
+                self.number += 1
+            try:
+                self.unsent = self.unsent[self.socket.send(self.unsent) :]
+            except BlockingIOError:
+                return True
+            except OSError:
+                return False
+        return True
+
+
+class Narrow(Deaf):
+    """A deaf one whose system takes few bytes for it, and which has 256 answers to ask for again."""
+
+    def __init__(self, port, name):
+        super().__init__(port, name)
+        self.socket.setblocking(True)
+        self.raises(256)
+        while self.accepted() < 256 and self.read(b"\x0135=P\x01", 5):
+            self.read(seconds=0.02)
+        self.socket.setblocking(False)
+
+    def connected(self, port):
+        it = socket.socket()
+        it.setsockopt(socket.SOL_SOCKET, socket.SO_RCVBUF, 4096)
+        it.settimeout(PATIENCE)
+        it.connect(("127.0.0.1", port))
+        return it
+
+
+def held(room):
+    """What waits for a firm is bounded: sessions that ask for resends and read nothing are closed, that with most first."""
+    with Server(room, "held", "--held", "2", workers=4) as server:
+        reads = server.peer("BBB", "reads")
+        reads.read(b"\x0135=A\x01")
+        house = server.peer("HSE")
+        house.read(b"\x0135=A\x01")
+        before = needs = server.memory()
+        peers = [Narrow(server.port, f"N{n}x") for n in range(NARROW)]
+        until, took, open_ones = time.monotonic() + 12, [], NARROW
+        while time.monotonic() < until and open_ones == NARROW:
+            open_ones = sum(it.ask() for it in peers)
+            needs = max(needs, server.memory())
+            time.sleep(0.05)
+            took.append(a_call(house))
+        grown = (needs - before) / 1_024
+        yield open_ones < NARROW and server.says_soon('why="too much waits"'), f"of {NARROW} sessions that read nothing {open_ones} stay"
+        yield grown <= MOST_HELD, f"the server takes {grown:.0f} MB more for a firm that may hold 2"
+        reads.raises(1)
+        yield reads.read(b"\x0135=P\x01", 5), "one of them that reads stays"
+        yield late_ones(took) <= MOST_CALL, f"the house's calls take {1000 * late_ones(took):.0f} ms"
+    with Server(room, "eight", usual=True) as server:
+        peers = [server.peer("BBB", f"B{n}") for n in range(8)]
+        well = all(it.read(b"\x0135=A\x01") for it in peers)
+        ninth = server.peer("BBB")
+        ninth.read(seconds=UNNAMED_WAIT)
+        yield well and ninth.text() == "too many connections", "a firm has eight connections if the line doesn't say"
+
+
+def honest(server, seconds, name):
+    """How many calls of the house are made in so long, which logs on again wherever it is closed."""
+    until, made, number, peer = time.monotonic() + seconds, 0, 0, None
+    while time.monotonic() < until:
+        if peer is None:
+            number += 1
+            try:
+                peer = server.peer("HSE", f"{name}{number}x")
+            except OSError:
+                time.sleep(0.05)
+                continue
+            if not peer.read(b"\x0135=A\x01", 1):
+                peer = peer.close() and None
+                continue
+        peer.got = b""
+        peer.trade()
+        if peer.read(b"\x01939=0\x01", 1):
+            made += 1
+        else:
+            peer = peer.close() and None
+    return made
+
+
+def greedy(server, name, stop):
+    """A firm that calls as fast as it can, and logs on again wherever it is closed."""
+    number = 0
+    while not stop.is_set():
+        number += 1
+        try:
+            peer = server.peer("BBB", f"{name}{number}x")
+            peer.raises(200)
+            peer.read(seconds=0.1)
+            peer.close()
+        except OSError:
+            time.sleep(0.01)
+
+
+def beside_greedy(server, seconds, name):
+    """How many calls of the house are made beside a greedy firm in so long."""
+    stop = threading.Event()
+    threads = [threading.Thread(target=greedy, args=(server, f"{name}{n}y", stop)) for n in range(4)]
+    for it in threads:
+        it.start()
+    made = honest(server, seconds, name)
+    stop.set()
+    for it in threads:
+        it.join()
+    return made
+
+
+def refused(room):
+    """Growths that are refused end who asks, and never the server: one in a hundred, and all above a limit of address space."""
+    compiled(f"{TOP}/checks/refusing.c", f"{room}/refusing.so")
+    env = {"LD_PRELOAD": f"{room}/refusing.so", "REFUSED_ONE_IN": "100", "REFUSED_WHILE": f"{room}/refuses"}
+    with Server(room, "one", env=env) as server:
+        open(env["REFUSED_WHILE"], "w").close()
+        made = beside_greedy(server, REFUSING, "H")
+        well = server.process.poll() is None
+        yield well and made > 0, f"of a hundred growths one is refused: the server lives, the house makes {made} calls"
+        os.remove(env["REFUSED_WHILE"])
+        made = honest(server, 2, "L")
+        yield made > 0, f"then the house makes {made}"
+    # of one arena, since the others have address space that they don't use yet
+    with Server(room, "space", env={"MALLOC_ARENA_MAX": "1"}) as server:
+        honest(server, 0.5, "E")
+        with open(f"/proc/{server.process.pid}/status") as it:
+            space = int(it.read().split("VmSize:")[1].split()[0]) * 1_024
+        resource.prlimit(server.process.pid, resource.RLIMIT_AS, (space + MORE_SPACE, resource.RLIM_INFINITY))
+        made = beside_greedy(server, REFUSING, "G")
+        yield server.process.poll() is None, f"above a limit all growths are refused: the server lives, the house makes {made} calls"
+        resource.prlimit(server.process.pid, resource.RLIMIT_AS, (resource.RLIM_INFINITY, resource.RLIM_INFINITY))
+        made = honest(server, 2, "F")
+        yield made > 0, f"once there is memory again the house makes {made}"
 
 
 class Beating(Peer):
@@ -436,30 +649,6 @@ def patience(room):
         yield well, "one that says nothing for three hours is closed, though its HeartBtInt is 0"
         again = server.peer("BBB")
         yield again.read(b"\x0135=A\x01"), "and may log on again"
-
-
-class Deaf(Peer):
-    """One that asks for resends and reads nothing, and what the socket hasn't taken of that."""
-
-    def __init__(self, port):
-        super().__init__(port, "BBB")
-        self.unsent = b""
-        self.read(b"\x0135=A\x01")
-        self.socket.setblocking(False)
-
-    def ask(self):
-        """Asks as far as the socket takes it: whether the server still has the connection."""
-        for _ in range(100):
-            if not self.unsent:
-                self.unsent = message("2", "BBB", self.number, "7=1|16=0|")
-                self.number += 1
-            try:
-                self.unsent = self.unsent[self.socket.send(self.unsent) :]
-            except BlockingIOError:
-                return True
-            except OSError:
-                return False
-        return True
 
 
 def deaf(room):
@@ -657,7 +846,7 @@ def strangers(room):
     yield count >= 18, f"{count} of 20 Logons 300 ms after their connects get in beside {rate:.0f} connects a second"
 
 
-PARTS = {it.__name__: it for it in (turns, strangers, rates, entries, race, connections, unnamed, behind, silent, logons, patience, deaf, reconnecting)}
+PARTS = {it.__name__: it for it in (turns, strangers, rates, entries, parts, memory, held, refused, race, connections, unnamed, behind, silent, logons, patience, deaf, reconnecting)}
 
 
 def allow_descriptors():

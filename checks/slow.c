@@ -1,6 +1,7 @@
 /* Makes the syncs of a file slow, where the environment has SLOW_SYNC=MS, or has the N-th and all later ones never end,
    where it has HUNG_SYNC=N; and so its reads, by SLOW_READ and HUNG_READ, and the syncs of a start (`fsync`), by SLOW_FSYNC and
-   HUNG_FSYNC. Once the file that HUNG_SYNC_AT names is there no sync ends. Once the one that HUNG_RECV or HUNG_ACCEPT names is
+   HUNG_FSYNC. With SLOW_SYNC_AT a sync is slow only once the file that it names is there, and once the one that HUNG_SYNC_AT names is
+   there no sync ends. Once the one that HUNG_RECV or HUNG_ACCEPT names is
    there, a read of a peer, or the next accept, never ends: of a socket that doesn't wait, as those of the workers and of the
    thread that accepts, and not those of the pages. Where it has HUNG_EXIT, the program never ends by itself. Preloaded, it stands before the C library's functions. It needs no header, so that the kit's own clang will do. */
 extern char *getenv(const char *);
@@ -33,6 +34,10 @@ static void wait_in(struct calls *it) {
     while (it->hung && it->count >= it->hung) pause();
     if (it->slow) usleep(it->slow * 1000);
 }
+static int waits_for(const char *name) {
+    const char *file = getenv(name);
+    return file && access(file, 0) != 0;
+}
 static void hang(const char *name) {
     const char *file = getenv(name);
     while (file && access(file, 0) == 0) pause();
@@ -42,7 +47,7 @@ static void hang_at(const char *name, int socket) {
 }
 int fdatasync(int file) {
     hang("HUNG_SYNC_AT");
-    wait_in(&syncs);
+    if (!waits_for("SLOW_SYNC_AT")) wait_in(&syncs);
     return syscall(FDATASYNC, file);
 }
 int fsync(int file) {
