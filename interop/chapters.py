@@ -49,6 +49,7 @@ ANSWER = "P: 70 AllocID, 793 the number of the entry, 87 AllocStatus."
 RAISE = "Some stand in the house file. The house makes others by an Agree, and a taker raises its limit by a Raise."
 UNDO = "Any accepted change can be reversed by its number, if its parties consent"
 GAP = "The message is dropped, and has to come again."
+BEGIN = "With both, reports begin above that number."
 RESEND = "A ResendRequest asks for the numbers from its 7 to its 16."
 
 
@@ -63,8 +64,9 @@ class Failed(Exception):
 class Course:
     """What the chapters play on: the engine by way of `between`, the others, and `say`, which tells the engine what is next."""
 
-    def __init__(self, between, service, say, patience):
+    def __init__(self, between, service, say, patience, book=""):
         self.between, self.say, self.patience = between, say, patience
+        self.book = book  # the name of the book that the service keeps; `serve` has none
         self.firms = {name: Firm(("127.0.0.1", service), name, HOUSE) for name in (HOUSE, OTHER, THIRD)}
         self.at, self.numbers, self.ids = 0, {}, itertools.count(1)
         self.is_leaving, self.agreed = False, 0
@@ -228,13 +230,15 @@ def parts_of(message):
 # ---- the chapters ----
 
 
-def log_on(c, words="log on as AAA"):
-    c.say("logon", words)
+def log_on(c, words="log on as AAA", line="logon", more=(), sentence=LOGON):
+    """Has the engine log on, with these fields more: the connection."""
+    c.say(line, words)
     seen = c.sent("A", words, LOGON)
-    for tag, value in ((49, ME), (56, HOUSE), (98, "0"), (1137, "9")):
+    for tag, value in ((49, ME), (56, HOUSE), (98, "0"), (1137, "9"), *more):
         if seen.message.get(tag) != value:
-            raise Failed(f"{tag} is {seen.message.get(tag, 'missing')} and not {value}", LOGON, seen)
+            raise Failed(f"{tag} is {seen.message.get(tag, 'missing')} and not {value}", sentence if tag > 5000 else LOGON, seen)
     c.until(lambda it: it.is_of(TO_FIRM, "A") and it.link == seen.link, "the service's Logon", CLOSED)
+    return seen.link
 
 
 def log_out(c):
@@ -448,6 +452,23 @@ def chapter_many(c):
     c.splits(f"{entry}.0", [own("A2", 1)], "0")
 
 
+def chapter_lacking(c):
+    """Reports from 5005 on"""
+    last = c.trade(1)
+    c.told(last)
+    log_out(c)
+    entries = [c.trade(1) for _ in range(3)]
+    book = c.book or "ANY"
+    words = f"log on as AAA, with 5006={book} and 5005={last}: you have the reports of this book up to entry {last}"
+    link = log_on(c, words, f"logon {book} {last}", ((5006, book), (5005, str(last))), BEGIN)
+    for entry in entries:
+        c.told(entry, BEGIN)
+    old = [it for it in c.between.seen if it.link == link and it.is_of(TO_FIRM, "AS") and it.message.count(755) <= last]
+    if c.book and old:
+        raise Failed("a report of an entry that the engine has", BEGIN, old[0])
+    c.splits(f"{entries[-1]}.0", [own("A2", 1)], "0")
+
+
 def chapter_day(c):
     """A full day"""
     for n in range(TRADES):
@@ -466,7 +487,7 @@ def chapter_day(c):
 CHAPTERS = [
     chapter_logon, chapter_split, chapter_ids, chapter_claimed, chapter_refused, chapter_cancelled, chapter_offers,
     chapter_agreements, chapter_undo, chapter_answers, chapter_empty, chapter_gap_in, chapter_gap_out, chapter_garbled,
-    chapter_again, chapter_closed, chapter_retry, chapter_many, chapter_day,
+    chapter_again, chapter_closed, chapter_retry, chapter_many, chapter_lacking, chapter_day,
 ]
 SENTENCES = [LOGON, NUMBERS, GARBLED, EMPTY, MEND, REPORT, LOGOUT, CLOSED, PAIRS, NAMES, PARTS, GIVEN, CLAIM, IDS, AGAIN, ANSWER,
-             RAISE, UNDO, GAP, RESEND]
+             RAISE, UNDO, GAP, RESEND, BEGIN]

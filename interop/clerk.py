@@ -193,7 +193,7 @@ class Clerk:
 
     def __init__(self, firm, path):
         self.firm, self.told, self.done = firm, Told(firm.firm), Done(path)
-        self.changed, self.version, self.is_on = threading.Condition(), 0, False
+        self.changed, self.version, self.is_on, self.why = threading.Condition(), 0, False, ""
         self.queue = self.done.waiting()
         threading.Thread(target=self.works, daemon=True).start()
 
@@ -204,9 +204,9 @@ class Clerk:
                 if self.queue:
                     self.sends(self.done.latest[self.queue[0]])
                 reports = self.firm.listen(0.05)
-                self.sees(reports, True)
-            except Closed:
-                self.sees([], False)
+                self.sees(reports)
+            except Closed as why:
+                self.sees([], str(why))
                 time.sleep(0.3)
 
     def sends(self, deed):
@@ -215,19 +215,20 @@ class Clerk:
             try:
                 answer = self.firm.ask("J", deed["id"], deed["rest"], patience=5)
                 break
-            except Closed:
-                self.sees([], False)
+            except Closed as why:
+                self.sees([], str(why))
         with self.changed:
             self.done.note(dict(id=deed["id"], answer=said(answer), is_well=answer.kind == "P" and answer.get(87) != "1"))
             self.queue.pop(0)
             self.tell()
 
-    def sees(self, reports, is_on):
+    def sees(self, reports, why=""):
+        """Takes reports, or why the firm isn't logged on."""
         with self.changed:
             for report in reports:
                 self.told.take(report)
-            if reports or is_on != self.is_on:
-                self.is_on = is_on
+            if reports or (not why, why) != (self.is_on, self.why):
+                self.is_on, self.why = not why, why
                 self.tell()
 
     def tell(self):
@@ -254,7 +255,7 @@ class Clerk:
             keys = ("id", "words", "who", "when", "answer", "is_well")
             lists["done"] = [{key: deed[key] for key in keys} for deed in reversed(self.done.list)]
             counts = {name: len(rows) for name, rows in lists.items()}
-            return dict(version=self.version, isOn=self.is_on, firm=self.firm.firm, house=self.firm.house, counts=counts,
+            return dict(version=self.version, isOn=self.is_on, why=self.why, firm=self.firm.firm, house=self.firm.house, counts=counts,
                         accounts=list(self.told.accounts), firms=list(self.told.firms), **{name: rows[:MOST] for name, rows in lists.items()})
 
 

@@ -39,6 +39,7 @@ class Message:
         self.fields = [tuple(field.split("=", 1)) for field in body.split("\x01")[:-1]]
         self.frame = frame
         self.kind = self.fields[0][1]
+        self.is_behind_gap = False  # whether a gap before it, on its connection, was filled by no messages
 
     def get(self, tag, otherwise=""):
         """The first value of a tag."""
@@ -106,10 +107,12 @@ def moment(seconds):
 
 class Machine:
     """A session, without a socket. `out` is what has to be sent, `came` the messages of the application that are to be read.
-    `want` is the number that the next message has to have, `next` that of the next one sent."""
+    `want` is the number that the next message has to have, `next` that of the next one sent. Where `book` is the name of a kept
+    book, reports begin above the number `last`."""
 
-    def __init__(self, firm, house, heartbeat=30, clock=time.time):
+    def __init__(self, firm, house, heartbeat=30, clock=time.time, book="", last=0):
         self.firm, self.house, self.heartbeat, self.clock = firm, house, heartbeat, clock
+        self.book, self.last = book, last
         self.want = self.next = 1
         self.gap = 0  # the highest number that came above a gap which is open
         self.skipped = 0  # how many gaps were filled by no messages
@@ -119,7 +122,8 @@ class Machine:
         self.heard = self.told = clock()
 
     def logon(self):
-        self.send("A", f"98=0|108={self.heartbeat}|1137=9|")
+        asked = f"5005={self.last}|5006={self.book}|" if self.book else ""
+        self.send("A", f"98=0|108={self.heartbeat}|1137=9|{asked}")
 
     def logout(self):
         self.is_leaving = True
@@ -150,7 +154,7 @@ class Machine:
                 raise Closed(f"no Logon: {message.get(58) or message}")
             self.is_on, self.want = True, 2
         elif message.kind == "4" and message.get(123) != "Y":
-            self.want = max(self.want, message.count(36))
+            self.want, self.skipped = max(self.want, message.count(36)), self.skipped + 1
         elif message.number < self.want:
             if not message.is_repeat:
                 self.leave(f"sequence number too low, expected {self.want}")
@@ -185,6 +189,7 @@ class Machine:
                 self.send("5")
             raise Closed(message.get(58) or "logged out")
         elif kind not in "0A":
+            message.is_behind_gap = self.skipped > 0
             self.came.append(message)
 
     def leave(self, why):
@@ -327,18 +332,21 @@ def answers(message, number, id):
 
 class Firm:
     """A firm that asks and is answered, over as many connections as that takes. `reports` has what it was told beside answers:
-    each entry once, whatever number of times a connection told it."""
+    each entry once, whatever number of times a connection told it. Where `book` is the name of a kept book, a connection begins above
+    `last`, the last report behind which none is lacking."""
 
     REST = 0.2  # seconds after which it connects anew
 
-    def __init__(self, address, firm, house="HSE", tls=None, heartbeat=30):
+    def __init__(self, address, firm, house="HSE", tls=None, heartbeat=30, book=""):
         self.address, self.firm, self.house, self.tls, self.heartbeat = address, firm, house, tls, heartbeat
         self.session, self.seen, self.reports = None, set(), deque()
+        self.book, self.last = book, 0
 
     def connect(self):
         """Logs on, where the firm isn't."""
         if self.session is None:
-            session = Session(self.address, Machine(self.firm, self.house, self.heartbeat), self.tls)
+            machine = Machine(self.firm, self.house, self.heartbeat, book=self.book, last=self.last)
+            session = Session(self.address, machine, self.tls)
             session.logon()
             self.session = session
 
@@ -381,6 +389,8 @@ class Firm:
             if it.kind == "AS" and it.get(755) not in self.seen:
                 self.seen.add(it.get(755))
                 self.reports.append(it)
+            if it.kind == "AS" and not it.is_behind_gap:
+                self.last = max(self.last, it.count(755))
 
     def listen(self, seconds):
         """The reports that have come, at the latest after so many seconds; it is Closed where the connection ends."""

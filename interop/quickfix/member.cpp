@@ -74,6 +74,21 @@ public:
     changed.notify_all();
   }
 
+  // Has the next Logons say which reports it has: those of this book up to an entry. Without a book they say nothing.
+  void has(const std::string &of, const std::string &last) {
+    std::lock_guard<std::mutex> held(lock);
+    book = of;
+    newest = last;
+  }
+
+  void toAdmin(FIX::Message &message, const FIX::SessionID &) override {
+    std::lock_guard<std::mutex> held(lock);
+    if (book.empty() || message.getHeader().getField(35) != "A")
+      return;
+    message.setField(5006, book);
+    message.setField(5005, newest);
+  }
+
   void onLogout(const FIX::SessionID &) override {
     std::lock_guard<std::mutex> held(lock);
     isOn = false;
@@ -138,7 +153,7 @@ private:
   std::condition_variable changed;
   FIX::SessionID session;
   FIX::Message kept;
-  std::string pending;
+  std::string pending, book, newest;
   bool isOn = false;
   long entry = 0;
   int sent = 0;
@@ -182,7 +197,8 @@ bool splitTwice(Member &member, const std::vector<std::string> &words, bool isHa
 
 bool does(Member &member, FIX::Session *session, std::vector<std::string> words, const std::string &mistake) {
   if (words[0] == "logon" || words[0] == "logout") {
-    const bool on = words[0] == "logon";
+    const bool on = words[0] == "logon", hasReports = words.size() > 2;
+    member.has(hasReports ? words[1] : "", hasReports ? words[2] : "");
     on ? session->logon() : session->logout();
     return member.isSession(on);
   }
