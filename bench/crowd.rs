@@ -9,12 +9,17 @@
 //! crowd idle PORT PID FIRMS SECONDS: all firms log on and say nothing. It prints the memory of the process before and with them, and how much
 //! of a core it takes for so long.
 //!
+//! crowd abuse PORT GIVER FIRM RAISES CONNECTIONS: a firm raises its limit with a giver so often, by one lot each, and claims all of it. Once
+//! that is done it says so, and on so many connections asks as fast as they take it to have its first raise undone, which the book refuses each
+//! time. When standard input ends it prints how often a second it was answered.
+//!
 //! crowd logon PORT: asks for the house's Logon until one is answered, and prints after how many seconds.
 
 use std::collections::HashMap;
 use std::io::{Read, Write};
 use std::net::TcpStream;
 use std::os::fd::AsRawFd;
+use std::sync::atomic::{AtomicUsize, Ordering};
 use std::time::{Duration, Instant};
 use std::{env, fs, process, thread};
 
@@ -22,6 +27,10 @@ use std::{env, fs, process, thread};
 const SETTLED: Duration = Duration::from_millis(2500);
 /// How many calls of the house are unanswered at most.
 const WINDOW: usize = 256;
+/// How the answer to a call begins, behind its length.
+const KIND: &[u8] = b"\x0135=P\x01";
+/// How many answers the firm had that abuses the server.
+static ANSWERS: AtomicUsize = AtomicUsize::new(0);
 /// How often a second a process's time is counted: USER_HZ of Linux.
 const TICKS: f64 = 100.0;
 
@@ -278,6 +287,90 @@ fn idle(port: u16, pid: &str, firms: usize, seconds: u64) {
     );
 }
 
+/// Makes a call on a session and reads up to its answer: the number of the entry that it is.
+fn entered(session: &mut Session, kind: &str, body: &str) -> u32 {
+    session.send(kind, body);
+    loop {
+        for message in session.read() {
+            if field(&message, "35").is_some_and(|kind| kind == "P" || kind == "AR") {
+                let entry = field(&message, "793").or(field(&message, "58").and_then(|text| text.strip_prefix("entry ")));
+                return entry.and_then(|n| n.parse().ok()).unwrap_or_else(|| panic!("{}", String::from_utf8_lossy(&message)));
+            }
+        }
+    }
+}
+
+/// Has a firm raise its limit so often and claim all of it: the number of its first raise.
+fn raised(port: u16, giver: &str, firm: &str, raises: usize) -> u32 {
+    let mut house = Session::open(port, "HSE").expect("a connection of the house");
+    entered(&mut house, "J", &format!("70=G1|71=0|626=90|5001={giver}|5002={firm}|5003=1|5004=0|"));
+    let mut taker = Session::open(port, firm).expect("a connection of the firm");
+    let first = entered(&mut taker, "J", &format!("70=R0|71=0|626=91|5001={giver}|5004=1|"));
+    let (mut sent, mut answered) = (1, 1);
+    while answered < raises {
+        let mut out = vec![];
+        while sent < raises && sent - answered < WINDOW {
+            taker.put("J", &format!("70=R{sent}|71=0|626=91|5001={giver}|5004=1|"), &mut out);
+            sent += 1;
+        }
+        taker.stream.write_all(&out).expect("a write");
+        answered += taker.read().iter().filter(|it| field(it, "793").is_some() && field(it, "35") == Some("P")).count();
+    }
+    let trade = format!("571=A1|55=ESZ6|32={raises}|552=1|54=1|453=1|448={giver}|447=D|452=4|1=A1|");
+    let trade = entered(&mut house, "AE", &trade);
+    let mut other = Session::open(port, giver).expect("a connection of the giver");
+    let given = format!("70=S1|71=0|626=17|72={trade}.0|78=1|79=X|80={raises}|539=1|524={firm}|525=D|538=4|");
+    let split = entered(&mut other, "J", &given);
+    entered(&mut taker, "J", &format!("70=C1|71=0|626=18|72={split}.1|78=1|79=A1|"));
+    for session in [&mut other, &mut taker] {
+        entered(session, "J", &format!("70=I1|71=6|626=20|72={first}|"));
+    }
+    first
+}
+
+fn cut_off() -> ! {
+    eprintln!("crowd: the firm that abuses the server is cut off");
+    process::exit(1)
+}
+
+/// Asks again and again on a connection to have an entry undone, and counts the answers.
+fn asks(mut session: Session, entry: u32) {
+    let mut stream = session.stream.try_clone().expect("a second handle");
+    thread::spawn(move || {
+        let body = format!("70=V1|71=6|626=21|72={entry}|");
+        loop {
+            let mut out = vec![];
+            (0..64).for_each(|_| session.put("J", &body, &mut out));
+            session.stream.write_all(&out).unwrap_or_else(|_| cut_off());
+        }
+    });
+    let (mut piece, mut held) = (vec![0; 65536], vec![]);
+    loop {
+        let count = stream.read(&mut piece).unwrap_or(0);
+        if count == 0 {
+            cut_off();
+        }
+        held.extend_from_slice(&piece[..count]);
+        let kept = held.len().min(KIND.len() - 1);
+        ANSWERS.fetch_add(held.windows(KIND.len()).filter(|it| *it == KIND).count(), Ordering::Relaxed);
+        held.drain(..held.len() - kept);
+    }
+}
+
+fn abuse(port: u16, giver: &str, firm: &str, raises: usize, connections: usize) {
+    let first = raised(port, giver, firm, raises);
+    thread::sleep(SETTLED);
+    for _ in 0..connections {
+        let session = Session::open(port, firm).expect("a connection of the firm");
+        thread::spawn(move || asks(session, first));
+    }
+    println!("{firm} asks on {connections} connections");
+    let (before, began) = (ANSWERS.load(Ordering::Relaxed), Instant::now());
+    std::io::stdin().read_to_end(&mut vec![]).expect("standard input");
+    let count = ANSWERS.load(Ordering::Relaxed) - before;
+    println!("{firm} was answered {:.0} calls a second", count as f64 / began.elapsed().as_secs_f64());
+}
+
 fn logon(port: u16) {
     let began = Instant::now();
     loop {
@@ -297,6 +390,11 @@ fn house(firms: usize) {
     println!("INSTRUMENT ESZ6");
 }
 
+fn usage() {
+    eprintln!("crowd: the words stand at its head");
+    process::exit(2);
+}
+
 fn main() {
     let words: Vec<String> = env::args().skip(1).collect();
     let number = |n: usize| words.get(n).and_then(|word| word.parse::<usize>().ok());
@@ -305,10 +403,11 @@ fn main() {
         (["house", _], Some(firms), ..) => house(firms),
         (["run", ..], Some(port), Some(firms), Some(speakers), Some(calls)) => run(port as u16, firms, speakers, calls),
         (["idle", _, pid, ..], Some(port), _, Some(firms), Some(seconds)) => idle(port as u16, pid, firms, seconds as u64),
+        (["abuse", _, giver, firm, ..], Some(port), ..) => match (number(4), number(5)) {
+            (Some(raises), Some(connections)) => abuse(port as u16, giver, firm, raises, connections),
+            _ => usage(),
+        },
         (["logon", _], Some(port), ..) => logon(port as u16),
-        _ => {
-            eprintln!("crowd: the words stand at its head");
-            process::exit(2);
-        }
+        _ => usage(),
     }
 }

@@ -1,8 +1,10 @@
 """What checks/abuse does to a server that keeps its book: its limits hold, and no firm stops another."""
 import collections
+import hashlib
 import os
 import resource
 import selectors
+import shutil
 import signal
 import socket
 import struct
@@ -30,6 +32,9 @@ NARROW, MOST_HELD = 6, 16  # sessions that read nothing, and the megabytes that 
 MOST_CALL = 1  # the seconds that the house's call may take beside them
 REFUSING, MORE_SPACE = 7, 1 << 20  # the seconds of refused growths, and the bytes of address space that are left then
 MOST_BESIDE = 0.1  # the seconds that the house's calls may take beside them, where ten times those alone are less
+RAISES, LIMIT, ASKS = 400_000, 500, 50_000  # a firm's raises, its limit before them, and how often each connection asks for the first one's reversal
+LIMITED = ("--rate", "500", "--per-firm", "4")  # as interop/README.md has it
+LOGONS, REPORTS, MOST_LOGONS = 1_500, 4_000, 512  # of one firm at once, the reports that each is due, and the megabytes that the server may take for them
 KNOCKERS, KNOCKS, KNOCKING, KNOCKERS_HOLD = 3, 4_200, 6, 4_000  # processes, and for each: connects a second, seconds, and connections
 
 
@@ -120,7 +125,8 @@ class Server:
                 time.sleep(0.02)
             except ConnectionResetError:
                 return  # it has listened, and ends
-        sys.exit(self.says())
+        if "event=listening" not in self.says():  # (else it has listened, and has ended)
+            sys.exit(self.says())
 
     def peer(self, firm, name=""):
         return Peer(self.port, firm, name)
@@ -731,7 +737,7 @@ def late_ones(seconds):
 
 def flood(peers, sent, stop):
     """Sends the same bytes on each connection, as far as each takes them, and reads what comes, until it is stopped."""
-    left = {it.socket: sent for it in peers}
+    left = {it.socket: memoryview(sent) for it in peers}
     with selectors.DefaultSelector() as waits:
         for it in left:
             it.setblocking(False)
@@ -763,31 +769,121 @@ def beside(house, peers, sent, count):
     return late_ones(took)
 
 
-def crowded(room, name):
-    """What the house's calls take alone, and beside a firm that calls on many connections at once."""
-    with Server(room, name, workers=1) as server:
-        house = server.peer("HSE")
-        house.read(b"\x0135=A\x01")
-        alone = late_ones([a_call(house) for _ in range(CROWD_CALLS)])
-        peers = [server.peer("BBB") for _ in range(CROWD)]
-        well = all(it.read(b"\x0135=A\x01") for it in peers)
-        call = "70=S1|71=0|626=91|5001=AAA|5004=1|"
-        sent = b"".join(message("J", "BBB", 2 + n, call) for n in range(CROWD_SENDS))
-        took = beside(house, peers, sent, CROWD_CALLS)
-        well = well and server.process.poll() is None
-        for it in peers:
-            it.close()
-        return well, alone, took
+def crowded(server, count, sent):
+    """What the house's calls take alone, and beside a firm that sends this on so many connections at once."""
+    house = server.peer("HSE")
+    house.read(b"\x0135=A\x01")
+    alone = late_ones([a_call(house) for _ in range(CROWD_CALLS)])
+    peers = [server.peer("BBB") for _ in range(count)]
+    well = all(it.read(b"\x0135=A\x01") for it in peers)
+    took = beside(house, peers, sent, CROWD_CALLS)
+    well = well and server.process.poll() is None
+    for it in peers:
+        it.close()
+    return well, alone, took
+
+
+def served(tried):
+    """Whether the house is served beside others, in one of three tries at the most, and what its calls take, and took alone."""
+    for _ in range(3):
+        well, alone, took = tried()
+        if well and took <= max(10 * alone, MOST_BESIDE):
+            return True, alone, took
+    return False, alone, took
 
 
 def turns(room):
-    """A firm that calls on 100 connections at once, beside the house: its connections share the time of one turn."""
-    tries = []
-    while not any(well and took <= max(10 * alone, MOST_BESIDE) for well, alone, took in tries) and len(tries) < 3:
-        tries.append(crowded(room, f"turns-{len(tries)}"))
-    well, alone, took = tries[-1]
-    well = well and took <= max(10 * alone, MOST_BESIDE)
+    """A firm that calls on 200 connections at once, beside the house: its connections share the time of one turn."""
+    call = "70=S1|71=0|626=91|5001=AAA|5004=1|"
+    sent = b"".join(message("J", "BBB", 2 + n, call) for n in range(CROWD_SENDS))
+
+    def tried():
+        with Server(room, "turns", workers=1) as server:
+            return crowded(server, CROWD, sent)
+
+    well, alone, took = served(tried)
     yield well, f"beside {CROWD} connections of a firm the house's calls take {1000 * took:.0f} ms, alone {1000 * alone:.0f} ms"
+
+
+def sealed(path, calls):
+    """A journal of these calls, each a type, a firm and fields, in one group."""
+    with open(HOUSE, "rb") as it:
+        pin = hashlib.sha256(it.read()).hexdigest()
+    frames = [message("A", "HSE", 1, f"98=0|108=0|1137=9|1408=allocd-journal-3|58={pin}|")]
+    frames += [message(kind, firm, number, rest) for number, (kind, firm, rest) in enumerate(calls, 1)]
+    front = b"".join(frames)
+    with open(path, "wb") as to:
+        to.write(front + message("0", "HSE", len(frames), f"112={hashlib.sha512(front).hexdigest()}|58=1|") + b"\0")
+
+
+def a_trade(id, lots):
+    return "AE", "HSE", f"571={id}|55=ESZ6|32={lots}|552=1|54=1|453=1|448=AAA|447=D|452=4|1=A1|"
+
+
+def raised():
+    """The calls of a firm that has raised its limit by one lot again and again, and claimed all of it; to undo the first raise is consented to."""
+    lots = LIMIT + RAISES
+    yield from (("J", "BBB", f"70=R{n}|71=0|626=91|5001=AAA|5004=1|") for n in range(RAISES))
+    yield a_trade("T1", lots)
+    yield "J", "AAA", f"70=S1|71=0|626=17|72={RAISES + 1}.0|78=1|79=X|80={lots}|539=1|524=BBB|525=D|538=4|"
+    yield "J", "BBB", f"70=C1|71=0|626=18|72={RAISES + 2}.1|78=1|79=B1|"
+    yield from (("J", firm, "70=I1|71=6|626=20|72=1|") for firm in ("AAA", "BBB"))
+
+
+def reversals(room):
+    """A firm asks without end, on few and on many connections, for the reversal of its first raise, on which its claim stands."""
+    sealed(f"{room}/raised", raised())
+    ask = "70=V1|71=6|626=21|72=1|"
+    sent = b"".join(message("J", "BBB", 2 + n, ask) for n in range(ASKS))
+    for count in (4, 48):
+        for words in ((), LIMITED):
+
+            def tried():
+                shutil.copyfile(f"{room}/raised", f"{room}/asks")
+                with Server(room, "asks", *words, workers=4) as server:
+                    return crowded(server, count, sent)
+
+            well, alone, took = served(tried)
+            text = f"asks on {count} connections{', with limits,' if words else ''}"
+            yield well, f"beside a firm that {text} for a reversal the house's calls take {1000 * took:.0f} ms, alone {1000 * alone:.0f} ms"
+
+
+def flocked(server):
+    """What the house's calls take alone, and while one firm logs on very often at once, and the megabytes that the server takes more at the most."""
+    house = server.peer("HSE")
+    house.read(b"\x0135=A\x01")
+    alone, before = late_ones([a_call(house) for _ in range(CROWD_CALLS)]), server.memory()
+    logon = message("A", "AAA", 1, "98=0|108=0|1137=9|")
+    held, took, needs, begun = [], [], before, time.monotonic()
+    while len(took) < CROWD_CALLS and time.monotonic() - begun < MOST_CROWDED:
+        for _ in range(LOGONS // 20 if len(held) < LOGONS else 0):
+            held.append(socket.create_connection(("127.0.0.1", server.port), timeout=PATIENCE))
+            held[-1].sendall(logon)
+        took.append(a_call(house))
+        needs = max(needs, server.memory())
+    lives = server.process.poll() is None
+    for it in held:
+        it.close()
+    return lives and len(held) >= LOGONS, alone, late_ones(took), (needs - before) / 1_024
+
+
+def flock(room):
+    """1,500 Logons of one firm that read nothing, as many as it may have and without a bound of them: the house is served."""
+    sealed(f"{room}/reports", (a_trade(f"T{n}", 1) for n in range(REPORTS)))
+    for usual in (True, False):
+        needs = []
+
+        def tried():
+            shutil.copyfile(f"{room}/reports", f"{room}/flock")
+            with Server(room, "flock", usual=usual, workers=4) as server:
+                *told, more = flocked(server)
+                needs.append(more)
+                return told
+
+        well, alone, took = served(tried)
+        well = well and needs[-1] <= MOST_LOGONS
+        text = "where it may have eight" if usual else "where it may have any"
+        yield well, f"beside {LOGONS} Logons of a firm, {text}, the house's calls take {1000 * took:.0f} ms, alone {1000 * alone:.0f} ms; {needs[-1]:.0f} MB more"
 
 
 def knock(port):
@@ -846,7 +942,7 @@ def strangers(room):
     yield count >= 18, f"{count} of 20 Logons 300 ms after their connects get in beside {rate:.0f} connects a second"
 
 
-PARTS = {it.__name__: it for it in (turns, strangers, rates, entries, parts, memory, held, refused, race, connections, unnamed, behind, silent, logons, patience, deaf, reconnecting)}
+PARTS = {it.__name__: it for it in (turns, reversals, flock, strangers, rates, entries, parts, memory, held, refused, race, connections, unnamed, behind, silent, logons, patience, deaf, reconnecting)}
 
 
 def allow_descriptors():

@@ -1,8 +1,9 @@
 """The accepted commands of a day, read from its journal: what examples/book.py stands on.
 
 A journal is a stream of FIX frames with accepted commands alone, in their order, so its n-th command is entry n, counted
-after the agreements of a house file of version 2. It may end with a line feed; what follows that is the rest of a group
-that wasn't finished. One of `allocd keep` begins with the digest of its house file, and has seals: both are looked at. A
+after the agreements of a house file of version 2. It ends at its first zero; what follows that is the rest of a group
+that wasn't finished. One of `allocd keep` begins with the digest of its house file, and has seals: both are looked at,
+and entries count up to the last seal. A
 day's input may hold refused commands too: it is read beside the answers that `allocd batch` gave to it, and what they
 accepted is its journal.
 """
@@ -13,10 +14,10 @@ from fix import BODY, OPENING, checksum
 from tool import Fault, called, content, say
 
 BEGINNING = b"8=FIXT.1.1\x019="
-FORM = "allocd-journal-2"
+FORM = "allocd-journal-3"
 TORN_LENGTH = re.compile(rb"8=FIXT\.1\.1\x019=\d{1,6}")
 TRAILER = re.compile(rb"10=(\d{3})\x01")
-LINE_FEED = 10
+SEAL = re.compile(rb"\x0135=0\x01[^\0]*?\x01112=[0-9a-f]{128}\x0158=(\d+)\x0110=\d{3}\x01")
 OF_SESSION = {"0", "1", "2", "3", "4", "5", "A"}
 KINDS = {"017": "split", "023": "split", "018": "claim", "019": "refuse", "217": "cancel", "223": "cancel",
          "090": "agree", "091": "raise", "620": "initiate", "621": "reverse", "622": "decline"}
@@ -26,22 +27,49 @@ class NoJournal(Fault):
     """What was read isn't the journal of a day of this house."""
 
 
+def still(path):
+    """The bytes of a file, as it was at one moment: behind a zero that isn't one any more `allocd keep` has written since."""
+    data = content(path)
+    at = data.find(b"\0")
+    if path == "-" or at < 0 or not data[at:].strip(b"\0"):
+        return data
+    with open(path, "rb") as file:
+        file.seek(at)
+        return data if file.read(1) in (b"", b"\0") else data[: at + 1]
+
+
 class Stream:
     """The frames of a file, each as its fields. What is passed over is kept in mind, for `tell`: garbled frames, a last
-    frame that isn't whole, and what stands after the line feed at the end."""
+    frame that isn't whole, what stands behind the first zero, and entries of a kept book that no seal follows."""
 
     def __init__(self, name, data, house=None):
-        self.name, self.data, self.house = name, data, house
+        self.name, self.house = name, house
+        self.data, _, self.behind = data.partition(b"\0")
         self.garbled, self.first, self.left_out = 0, 0, ""
-        self.is_kept, self.hasher, self.hashed = False, hashlib.sha512(), 0
+        self.is_kept, self.hasher, self.hashed, self.next = False, hashlib.sha512(), 0, 0
 
     @classmethod
     def of(cls, path, house=None):
         """The frames of a file; a kept book's has to be of the house file with this SHA-256, if one is given."""
-        return cls(called(path), content(path), house)
+        return cls(called(path), still(path), house)
 
     def __iter__(self):
-        data, at = self.data.rstrip(b"\0"), 0
+        """The frames, those of a kept book up to the last seal."""
+        group = []
+        for fields in self.each():
+            group.append(fields)
+            if not self.is_kept or fields[0][1] in ("0", "A"):
+                yield from group
+                group = []
+        if self.behind.strip(b"\0"):
+            self.look_behind()
+        if group:
+            more = f"; {self.left_out}" if self.left_out else ""
+            self.left_out = f"{counted(len(group), 'entry', 'entries')} behind the last seal, of a group that isn't whole{more}"
+
+    def each(self):
+        """The frames that are there."""
+        data, at = self.data, 0
         while at < len(data):
             opening = OPENING.match(data, at)
             if not opening:
@@ -68,6 +96,7 @@ class Stream:
             self.is_kept = form == FORM
             if form.startswith("allocd-journal-") and not self.is_kept:
                 raise NoJournal(f"{self.name} is of the form {form}, and not {FORM}")
+            self.next = int(head.get("34", "0")) if self.is_kept else 0
             if self.is_kept and self.house not in (None, head.get("58")):
                 raise NoJournal(f"{self.name} is of another house file, with SHA-256 {head.get('58')}")
         elif self.is_kept and fields[0][1] == "0":
@@ -75,14 +104,19 @@ class Stream:
             self.hashed = at
             if firsts(fields).get("112") != self.hasher.hexdigest():
                 raise NoJournal(f"{self.name}: the bytes before the seal at byte {at} aren't those that were sealed")
+            self.next = int(firsts(fields).get("34", "0"))
+
+    def look_behind(self):
+        """Sees that behind the first zero no seal of a later group stands."""
+        self.left_out = self.left_out or f"what stands behind the zero at byte {len(self.data)} is left out"
+        for seal in SEAL.finditer(self.behind):
+            if int(seal[1]) != self.next:
+                raise NoJournal(f"{self.name}: a zero stands at byte {len(self.data)}, before a group that was committed")
 
     def end(self, data, at):
-        """Sees that where no frame begins a file may end: at a line feed, or within the beginning of a frame."""
+        """Sees that where no frame begins a file may end: within the beginning of a frame."""
         rest = data[at : at + 32]
-        if rest[0] == LINE_FEED and not OPENING.match(data, at + 1):
-            after = len(data) - at - 1
-            self.left_out = f"{after} bytes after the line feed at byte {at} are left out" if after else ""
-        elif BEGINNING.startswith(rest) or TORN_LENGTH.fullmatch(rest):
+        if BEGINNING.startswith(rest) or TORN_LENGTH.fullmatch(rest):
             self.torn(data, at, len(data))
         else:
             raise NoJournal(f"{self.name}: no frame begins at byte {at}")
@@ -170,8 +204,8 @@ def accepted(messages, answers, opening):
     return found
 
 
-def counted(n, what):
-    return f"{n} {what}" if n == 1 else f"{n} {what}s"
+def counted(n, what, more=None):
+    return f"{n} {what}" if n == 1 else f"{n} {more or what + 's'}"
 
 
 class Entry:

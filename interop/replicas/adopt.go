@@ -63,25 +63,30 @@ func (l *hold) awaited() {
 	}
 }
 
-// whole reads a journal to its last shut gate.
+// whole reads a journal to its last seal. A zero that stands before a group which was committed is damage.
 func whole(file *os.File, housePath string) *chain {
 	house, err := os.ReadFile(housePath)
 	check(err)
-	size, err := file.Seek(0, io.SeekEnd)
-	check(err)
+	size := counted(file)
 	if size == 0 {
 		lost("%s has nothing to begin a book with", file.Name())
 	}
 	c := newChain()
 	bad := c.from(io.NewSectionReader(file, 0, size))
-	if stands := rest(file, c.sealed, size); len(stands) == 0 || stands[0] != gate {
-		lost("%s is no whole journal: behind byte %d stands no shut gate: %v", file.Name(), c.sealed, bad)
+	behind := rest(file, size)
+	if bad != nil || len(behind) == 0 {
+		lost("%s is no whole journal: behind byte %d stands no group and no zero: %v", file.Name(), c.at, bad)
 	}
 	if c.house != sha256Of(house) {
 		lost("%s is of a house file with SHA-256 %s, and %s has %s", file.Name(), c.house, housePath, sha256Of(house))
 	}
-	if c.entries == -1 {
+	if c.entries = c.within; c.entries == -1 {
 		c.entries = openingOf(house)
+	}
+	for _, seal := range seals(behind) {
+		if isLater(seal, c.entries) {
+			lost("%s is no whole journal: a zero stands at byte %d, before a group that was committed", file.Name(), size)
+		}
 	}
 	return c
 }

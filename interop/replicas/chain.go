@@ -9,11 +9,11 @@ import (
 	"strconv"
 )
 
-// gate is the line feed at the end of a journal's file. The next group takes its place, beginning with an 8.
-const gate = '\n'
+// bound is what stands behind the bytes of a journal that count: these have no zero.
+const bound = 0
 
 // form is that of a journal whose seals are SHA-512.
-const form = "allocd-journal-2"
+const form = "allocd-journal-3"
 
 // chain takes the bytes of a journal, and looks at each seal: it has to be the SHA-512 of what comes before.
 type chain struct {
@@ -25,10 +25,11 @@ type chain struct {
 	entries int64  // the number of the last entry; -1 until one came
 	seals   int64
 	sealed  int64 // where the last seal or the head ends
+	within  int64 // the entries up to there
 	heed    func(one []byte, at int64) error
 }
 
-func newChain() *chain { return &chain{sum: sha512.New(), base: -1, entries: -1} }
+func newChain() *chain { return &chain{sum: sha512.New(), base: -1, entries: -1, within: -1} }
 
 // again is a chain that has taken in the same.
 func (c *chain) again() *chain {
@@ -73,7 +74,7 @@ func (c *chain) frame(one []byte) error {
 		if seal := digest(c.sum); field(one, "112") != seal {
 			return fmt.Errorf("the seal at byte %d says %s, and the bytes before it have %s", c.at, field(one, "112"), seal)
 		}
-		c.seals, c.sealed = c.seals+1, end
+		c.seals, c.sealed, c.within = c.seals+1, end, c.entries
 	default:
 		if err := c.entry(one); err != nil {
 			return err
@@ -117,22 +118,34 @@ func (c *chain) from(in io.Reader) error {
 	}
 }
 
-// behind counts the groups that are whole in the bytes that stand where a group begins, its gate open or not. A group ends with its seal.
-func behind(data []byte) int {
-	if len(data) == 0 {
-		return 0
+// counted is how many bytes of a file count: those before its first zero.
+func counted(file io.ReaderAt) int64 {
+	for at, piece := int64(0), make([]byte, 1<<20); ; {
+		n, err := file.ReadAt(piece, at)
+		if zero := bytes.IndexByte(piece[:n], bound); zero >= 0 {
+			return at + int64(zero)
+		}
+		if at += int64(n); err == io.EOF {
+			return at
+		}
+		check(err)
 	}
-	data, seals := append([]byte{'8'}, data[1:]...), 0
-	for {
-		one, err := cut(data)
-		if err != nil || one == nil {
-			return seals
+}
+
+// seals gives the whole seals in the bytes behind a group, wherever one begins: of whole groups, also behind a zero.
+func seals(data []byte) [][]byte {
+	found := [][]byte{}
+	for from := bytes.Index(data, opening); from >= 0; from = bytes.Index(data, opening) {
+		one, err := cut(data[from:])
+		if err == nil && one != nil && field(one, "35") == "0" {
+			found = append(found, one)
 		}
-		if field(one, "35") == "0" {
-			seals++
-		}
-		if data = data[len(one):]; bytes.HasPrefix(data, []byte{gate}) {
-			data = append([]byte{'8'}, data[1:]...)
-		}
+		data = data[from+len(opening):]
 	}
+	return found
+}
+
+// isLater is whether a seal is of a later group than the one whose first entry comes behind so many.
+func isLater(seal []byte, entries int64) bool {
+	return field(seal, "58") != strconv.FormatInt(entries+1, 10)
 }

@@ -12,10 +12,11 @@ import subprocess
 import time
 from concurrent.futures import ThreadPoolExecutor
 
-from harness import PATIENCE, Cluster, Trial, alive, case, children, contents, frame, free_port, made_house, page, room_for, serving, until
+from harness import PATIENCE, Cluster, Trial, alive, case, children, contents, frame, free_port, is_of, made_house, page, room_for, serving, until
 from kills import put_book
 
 HUNG = 15  # seconds, after which another machine answers
+COVERED = 2  # seconds, after which nothing more is written behind the last call
 
 
 def pair(trial, book, *words, **more):
@@ -124,10 +125,10 @@ def adoption(trial, journal):
     case("has the lock: up to" in said, "an adoption waits for the lock of one who is gone")
     case(status == 0 and trial.show("adopted") == journal, f"begun anew it is whole: {said.strip().splitlines()[-1]}")
     c.start()
-    case(until(c.serves) and c.kept() == journal, "and the empty machine serves all of it")
+    case(until(c.serves) and c.keeps(journal), "and the empty machine serves all of it")
     other = f"{trial.room}/other-journal"
     with open(other, "wb") as file:
-        file.write(journal[:300] + b"\n")
+        file.write(journal[:300])
     c.stop(signal.SIGTERM)
     free()
     status, said = trial.word("adopt", trial.house, other, "adopted")
@@ -146,9 +147,9 @@ def joining(trial):
     a, b = trial.machine("A", "joined").start(), trial.machine("B", "joined")
     until(a.serves)
     load = trial.load("joined", [a, b], PAUSE="0.01")  # pieces are joined from half a megabyte on: seconds after the change
-    until(lambda: os.path.getsize(a.journal) > 150_000)
+    until(lambda: len(a.kept()) > 150_000)
     was = flipped(a.journal, 100_000)
-    wrong = contents(a.journal)[99_900:100_100]
+    wrong = contents(a.journal)[100_000:100_200]  # a byte that has become a zero is where the file ends then
     found = lambda: "isn't what etcd has, between" in a.said()
     until(lambda: found() or trial.state("joined")[1] > 1_000_000, 10 * PATIENCE)  # on a slow disk it takes minutes to write so much
     line = next((it for it in a.said().splitlines() if "isn't what etcd has, between" in it), None)
@@ -161,13 +162,13 @@ def joining(trial):
     large = lambda: sum(y - x > 250_000 for x, y in zip(*(lambda it: (it, it[1:] + [length]))(offsets(trial))))
     case(until(lambda: large() >= 1), f"{length} bytes are {len(offsets(trial))} pieces, of which {large()} were joined")
     journal = trial.show("joined")
-    case(journal == a.kept() and journal[100_000] == was, "the book of joined pieces is the journal, without the changed byte")
+    case(a.keeps(journal) and journal[100_000] == was, "the book of joined pieces is the journal, without the changed byte")
     watch = trial.watch("joined", "w")
     case(trial.agreed("joined", "w", entries), "a watch that begins late agrees with it")
     watch.kill()
     a.stop(signal.SIGTERM)
     b.start()
-    case(until(b.serves) and b.kept() == journal, "and an empty machine takes it over")
+    case(until(b.serves) and b.keeps(journal), "and an empty machine takes it over")
     b.stop(signal.SIGTERM)
     trial.replayed("joined")
     return journal
@@ -189,6 +190,7 @@ def offsets(trial):
 
 def silent(one):
     """A machine whose sidecar stands still while no call comes: nobody tells its server that it may go on, so that it ends by itself."""
+    time.sleep(COVERED)  # the empty group behind the last call's is a question of its own, which is waited for longer
     began, line = time.monotonic(), "no word came from the other machines"
     before = one.said().count(line)
     one.kill(one.process.pid, how=signal.SIGSTOP)
@@ -323,9 +325,9 @@ def slow_lines(trial, journal):
     """A book is shown, watched, and taken over on an empty disk, over lines on which one reading takes more than two seconds."""
     slow = trial.line(1, 200)
     began = time.time()
-    case(trial.show("joined", slow) == journal, f"{len(journal)} bytes are shown over a slow line, in {time.time() - began:.1f} s")
+    case(is_of(trial.show("joined", slow), journal), f"{len(journal)} bytes are shown over a slow line, in {time.time() - began:.1f} s")
     a = trial.machine("S", "joined", env=slow).start()
-    case(until(a.serves) and a.kept() == journal, f"and taken over: {a.last()}")
+    case(until(a.serves) and a.keeps(journal), f"and taken over: {a.last()}")
     watch = trial.watch("joined", "slow", env=slow)
     case(trial.agreed("joined", "slow", trial.state("joined")[0]), "and watched")
     watch.kill()
@@ -419,7 +421,7 @@ def options(trial):
 ASKS = r"""#!/usr/bin/env python3
 import os, socket, sys, time
 path = sys.argv[sys.argv.index("--replicate") + 1]
-open(sys.argv[3], "wb").write(b"8=A|\n")
+open(sys.argv[3], "wb").write(b"8=A|\0")
 line = socket.socket(socket.AF_UNIX)
 line.connect(path)
 answers = open(sys.argv[3] + ".answers", "a", buffering=1)
@@ -483,11 +485,11 @@ def full_journal(journal, entries):
         numbers = range(group, min(group + 500, entries + 1))
         data = b"".join(frame(b"%b\x0134=%d%b\x01571=F%d\x01%b" % (first, n, middle, n, last)) for n in numbers)
         sum_of.update(data)
-        own = re.sub(rb"\x0134=\d+", b"\x0134=%d" % (numbers[-1] + 1), seal)
-        ends = frame(re.sub(rb"\x01112=[0-9a-f]{128}", b"\x01112=" + sum_of.hexdigest().encode(), own))
+        own = re.sub(rb"\x0134=\d+", b"\x0134=%d" % numbers.stop, seal)
+        ends = frame(re.sub(rb"\x01112=[0-9a-f]{128}\x0158=\d+", b"\x01112=%b\x0158=%d" % (sum_of.hexdigest().encode(), group), own))
         sum_of.update(ends)
         out += [data, ends]
-    return b"".join(out) + b"\n"
+    return b"".join(out) + b"\0"
 
 
 def full(trial, journal):
@@ -505,7 +507,7 @@ def full(trial, journal):
     case(shown == whole and time.time() - began > least, f"they are shown over 100 Mbit/s, in {time.time() - began:.0f} s")
     began = time.time()
     b.start(again=False)
-    case(until(b.serves, 300) and b.kept() == whole and time.time() - began > least, f"and taken over on an empty disk: {b.last()}")
+    case(until(b.serves, 300) and b.keeps(whole) and time.time() - began > least, f"and taken over on an empty disk: {b.last()}")
     began = time.time()
     watch = trial.watch("full", "w", env=env)
     case(until(lambda: trial.cluster.get("/allocd/full/done/w") == "1000000", 300), f"and watched, in {time.time() - began:.0f} s")

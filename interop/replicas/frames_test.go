@@ -23,7 +23,7 @@ func journal(groups int) []byte {
 	data := framed("35=A|1408=" + form + "|58=house|")
 	for i := 1; i <= groups; i++ {
 		data = append(data, framed(fmt.Sprintf("35=AE|34=%d|", i))...)
-		data = append(data, framed(fmt.Sprintf("35=0|112=%x|", sha512.Sum512(data)))...)
+		data = append(data, framed(fmt.Sprintf("35=0|112=%x|58=%d|", sha512.Sum512(data), i))...)
 	}
 	return data
 }
@@ -63,7 +63,7 @@ func TestChainTakesAnyPieces(t *testing.T) {
 				t.Fatal(err)
 			}
 		}
-		if c.entries != 5 || c.base != 0 || c.seals != 5 || c.sealed != int64(len(data)) || c.house != "house" {
+		if c.entries != 5 || c.within != 5 || c.base != 0 || c.seals != 5 || c.sealed != int64(len(data)) || c.house != "house" {
 			t.Fatalf("by %d: %d entries, %d seals, %d bytes", size, c.entries, c.seals, c.sealed)
 		}
 	}
@@ -97,19 +97,25 @@ func TestAgainIsApart(t *testing.T) {
 	}
 }
 
-func TestBehind(t *testing.T) {
+func TestSeals(t *testing.T) {
 	all, two := journal(4), len(journal(2))
 	groups := append([]byte{}, all[two:]...)
-	shut := append([]byte{gate}, groups[1:]...)
+	torn := append([]byte{}, groups...)
+	torn[0] = bound
 	for name, it := range map[string]struct {
 		data []byte
 		want int
 	}{
-		"nothing": {nil, 0}, "the gate": {[]byte{gate}, 0}, "two open": {append(groups, gate), 2}, "two, the gate shut": {shut, 2},
-		"one": {all[len(journal(3)):], 1}, "a group in part": {shut[:len(shut)-20], 1}, "something else": {[]byte("8=x\n"), 0},
+		"nothing": {nil, 0}, "zeros": {make([]byte, 5000), 0}, "two": {append(groups, bound), 2}, "two, the first torn": {torn, 2},
+		"one": {all[len(journal(3)):], 1}, "a group in part": {torn[:len(torn)-20], 1}, "something else": {[]byte("8=x\n"), 0},
 	} {
-		if got := behind(it.data); got != it.want {
+		if got := len(seals(it.data)); got != it.want {
 			t.Errorf("%s: %d groups", name, got)
+		}
+	}
+	for entries := int64(0); entries < 5; entries++ {
+		if isLater(seals(groups)[0], entries) == (entries == 2) {
+			t.Errorf("behind %d entries the seal of the third one is later: %v", entries, entries != 2)
 		}
 	}
 }

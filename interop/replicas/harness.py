@@ -262,6 +262,12 @@ def page(port):
     return done.stdout
 
 
+def is_of(kept, journal):
+    """Whether this is a journal, and behind it no more than groups without entries, as each start puts one there."""
+    behind = re.findall(rb"8=FIXT\.1\.1\x019=\d+\x01(35=[^\x01]+)\x01", kept[len(journal) - 1 :])
+    return kept.startswith(journal[:-1]) and set(behind) <= {b"35=0"}
+
+
 class Machine:
     """A folder, a port, and a sidecar that is started again where it ends, as its unit does."""
 
@@ -341,7 +347,11 @@ class Machine:
         return until(lambda: self.said().rfind("waits for") > self.said().rfind("connections are taken"))
 
     def kept(self):
-        return contents(self.journal)
+        """What counts of its journal, and a zero, as `show` gives it."""
+        return contents(self.journal).split(b"\0", 1)[0] + b"\0"
+
+    def keeps(self, journal):
+        return is_of(self.kept(), journal)
 
     def laid_aside(self, wrong=b""):
         """The files that it has laid aside; where it is asked for bytes, also as an end that was cut off, those that have these."""

@@ -118,14 +118,14 @@ def refused_starts(trial, a):
 def lost_files(trial, a):
     os.remove(a.journal)
     a.start(again=False)
-    case(until(a.serves) and a.kept() == trial.show("outages"), f"a journal that was lost comes from etcd: {a.last()}")
+    case(until(a.serves) and a.keeps(trial.show("outages")), f"a journal that was lost comes from etcd: {a.last()}")
     a.stop(signal.SIGTERM)
     with open(a.journal, "r+b") as it:
         it.seek(4000)
         it.write(b"X")
     wrong = contents(a.journal)[3_900:4_100]
     a.start(again=False)
-    case(until(a.serves) and a.kept() == trial.show("outages") and a.laid_aside(wrong), "what a journal with a byte changed has is laid aside, and etcd's comes")
+    case(until(a.serves) and a.keeps(trial.show("outages")) and a.laid_aside(wrong), "what a journal with a byte changed has is laid aside, and etcd's comes")
     line = next((it for it in reversed(a.said().splitlines()) if "laid aside" in it), "")
     case("what etcd has" in line and "nobody" not in line, f"and it is told as what it is: {line[9:60]}")
     a.stop(signal.SIGTERM)
@@ -138,7 +138,7 @@ def lost_files(trial, a):
     status, said = trial.word("adopt", trial.house, a.journal, "outages", env=a.env)
     case(status == 0 and trial.show("outages") == before, f"adopt begins the log with it: {said.strip()}")
     a.start(again=False)
-    case(until(a.serves) and a.kept() == before == trial.show("outages"), f"and a start serves it: {a.last()}")
+    case(until(a.serves) and a.keeps(before) and a.keeps(trial.show("outages")), f"and a start serves it: {a.last()}")
     a.stop(signal.SIGTERM)
 
 
@@ -172,13 +172,13 @@ def alarms(trial, journal):
     refused = list(frames)
     refused[trade] = frame(refused[trade].split(b"\x01", 2)[2][:-7].replace(b"448=AAA", b"448=ZZZ"))
     true = b"".join(frames)
-    put_book(trial.cluster, "true", true + b"\n", entries, trial.house)
+    put_book(trial.cluster, "true", true + b"\0", entries, trial.house)
     watch = trial.watch("true", "w")
     case(trial.agreed("true", "w", entries), f"a true book: the watch agrees with {entries} entries")
     trial.cluster.put("/allocd/true/head", f"{entries} {len(true)} forger {0:064d}")
     alarm(trial, "true", watch, "the digest of")
     for book, data, words in [("seal", b"".join(wrong), "the seal at byte"), ("rules", sealed(refused), "isn't what the rules give")]:
-        put_book(trial.cluster, book, data + b"\n", entries, trial.house)
+        put_book(trial.cluster, book, data + b"\0", entries, trial.house)
         alarm(trial, book, trial.watch(book, "w"), words)
 
 

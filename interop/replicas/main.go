@@ -23,7 +23,7 @@ adopt puts a FILE of which etcd has less, or nothing, and ends. takeover has the
 With BOOK alone HOUSE is /etc/allocd/BOOK.house, and FILE /var/lib/allocd/BOOK.
 watch compares all digests and runs 'allocd batch' as the book grows. Where something isn't as it must be, or isn't what it agreed to
 before (--memory), it ends with status 3; status 1 is a trouble of its own. --metrics answers Prometheus, on 127.0.0.1 or a socket.
-show writes the journal, as a file has it, on standard output; state says how far it is.
+show writes the journal, and a zero behind it, on standard output; state says how far it is.
 
 ETCD in the environment names the nodes (HOST:PORT,..), TLS the files CA,CERTIFICATE,KEY; ALLOCD is the program.
 QUOTA is the nodes' --quota-backend-bytes, for the alarm (2147483648, as etcd's own, if not given).

@@ -13,7 +13,7 @@ import (
 	"time"
 )
 
-// mirror is a journal's file that has a book's beginning: `at` bytes and the gate, or nothing.
+// mirror is a journal's file that has a book's beginning: `at` bytes and a zero. Of a book that has nothing yet there is no file: the server begins it.
 type mirror struct {
 	path, run string
 	file      *os.File
@@ -55,10 +55,14 @@ func ownedAs(path, like string) {
 func settle(k *keys, n *note, h header, revision int64, path, run string) (*mirror, string) {
 	stands := standingOf(path, h.length)
 	permitted(k, n, h, revision, stands, run)
-	file, err := os.OpenFile(path, os.O_RDWR|os.O_CREATE, 0o600)
-	check(err)
-	m := &mirror{path: path, run: run, file: file}
-	source := m.becomes(k, h, stands.size)
+	m := &mirror{path: path, run: run, sha: sha256.New()}
+	source := "nothing yet"
+	if h.length > 0 {
+		m.open()
+		source = m.becomes(k, h, stands.size)
+	} else {
+		m.clear()
+	}
 	n.agrees(m.file, h)
 	if h.known {
 		n.see(h, revision)
@@ -81,9 +85,39 @@ func permitted(k *keys, n *note, h header, revision int64, s standing, run strin
 	lost("%v", why)
 }
 
+// open has the file open, which is made where none is there.
+func (m *mirror) open() {
+	if m.file == nil {
+		file, err := os.OpenFile(m.path, os.O_RDWR|os.O_CREATE, 0o600)
+		check(err)
+		m.file = file
+	}
+}
+
+// clear takes away the file of a book that has nothing yet: what stands there, a group of which nobody was told, is laid aside.
+func (m *mirror) clear() {
+	file, err := os.Open(m.path)
+	if os.IsNotExist(err) {
+		return
+	}
+	check(err)
+	defer file.Close()
+	if stood := bytes.TrimRight(rest(file, 0), "\x00"); len(stood) > 0 {
+		m.layAside(stood, 0)
+	}
+	check(os.Remove(m.path))
+	syncFolder(m.path)
+}
+
+// layAside keeps bytes that stood from there on.
+func (m *mirror) layAside(stood []byte, from int64) {
+	check(os.WriteFile(m.path+"."+m.run+".cut", stood, 0o600))
+	say("%d bytes behind byte %d, %s, are laid aside in %s.%s.cut", len(stood), from, m.unlike(from), m.path, m.run)
+}
+
 func (m *mirror) becomes(k *keys, h header, size int64) string {
 	if m.has(h, size) {
-		m.mend(m.at, nil, size)
+		m.mend(m.at, nil)
 		return "all of it from the file"
 	}
 	for _, r := range m.marks(k, h, size) {
@@ -93,7 +127,7 @@ func (m *mirror) becomes(k *keys, h header, size int64) string {
 			continue
 		}
 		m.at, m.sha = r.at, r.sha
-		m.mend(from, tail, size)
+		m.mend(from, tail)
 		return fmt.Sprintf("the last %d bytes from etcd", len(tail))
 	}
 	m.fetch(k, size)
@@ -112,10 +146,10 @@ func (m *mirror) has(h header, size int64) bool {
 }
 
 // marks are the places up to which the file may be etcd's, the last first, each with what comes before it taken in: the file's end, and where
-// pieces begin. So of a file whose last group was never put, or has its gate shut, what comes before that group is kept.
+// pieces begin. So of a file whose last group was never put, or isn't whole, what comes before that group is kept.
 func (m *mirror) marks(k *keys, h header, size int64) []*reader {
 	places := []int64{}
-	for _, place := range append(k.beginnings(clamp(h.length, 0, size)), size-1) {
+	for _, place := range append(k.beginnings(clamp(h.length, 0, size)), size) {
 		if place > 0 && place <= h.length && place <= size {
 			places = append(places, place)
 		}
@@ -133,16 +167,15 @@ func (m *mirror) marks(k *keys, h header, size int64) []*reader {
 	return marks
 }
 
-// mend writes what lacks from there on, and cuts off what is behind it.
-func (m *mirror) mend(from int64, tail []byte, size int64) {
-	wanted := m.end(tail)
-	cut := rest(m.file, from, size)
-	if bytes.Equal(cut, wanted) {
+// mend writes what lacks from there on, and cuts off what is behind it. Zeros that stand there already stay.
+func (m *mirror) mend(from int64, tail []byte) {
+	wanted, stood := m.end(tail), rest(m.file, from)
+	cut := bytes.TrimRight(stood, "\x00")
+	if bytes.Equal(cut, tail) && len(stood) >= len(wanted) {
 		return
 	}
-	if known := bytes.TrimRight(cut, "\n"); len(known) > 1 && (len(wanted) < 1 || !bytes.HasPrefix(wanted[1:], known[1:])) { // its gate may be shut
-		check(os.WriteFile(m.path+"."+m.run+".cut", cut, 0o600))
-		say("%d bytes behind byte %d, %s, are laid aside in %s.%s.cut", len(cut), from, m.unlike(from), m.path, m.run)
+	if len(cut) > 0 && !bytes.HasPrefix(tail, cut) {
+		m.layAside(cut, from)
 	}
 	_, err := m.file.WriteAt(wanted, from)
 	check(err)
@@ -160,10 +193,7 @@ func (m *mirror) unlike(from int64) string {
 
 // end are these bytes as they stand at the file's end.
 func (m *mirror) end(tail []byte) []byte {
-	if m.at == 0 {
-		return nil
-	}
-	return append(append([]byte{}, tail...), gate)
+	return append(append([]byte{}, tail...), bound)
 }
 
 // fetch has all of the book from etcd. A file that is there is laid aside.
@@ -193,19 +223,28 @@ func (m *mirror) fetch(k *keys, size int64) {
 	}
 }
 
-// add puts the next bytes of the book behind those that are there: first what comes behind the gate, then what takes its place.
+// add puts the next bytes of the book behind those that are there.
 func (m *mirror) add(data []byte) {
 	if len(data) == 0 {
 		return
 	}
-	_, err := m.file.WriteAt(append(append([]byte{}, data[1:]...), gate), m.at+1)
-	check(err)
-	_, err = m.file.WriteAt(data[:1], m.at)
+	m.open()
+	_, err := m.file.WriteAt(append(append([]byte{}, data...), bound), m.at)
 	check(err)
 	m.at += int64(len(data))
 }
 
-func (m *mirror) sync() { check(m.file.Sync()) }
+func (m *mirror) sync() {
+	if m.file != nil {
+		check(m.file.Sync())
+	}
+}
+
+func (m *mirror) close() {
+	if m.file != nil {
+		m.file.Close()
+	}
+}
 
 // syncFolder has a file's name on the disk.
 func syncFolder(path string) {

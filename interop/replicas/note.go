@@ -95,7 +95,7 @@ func (n *note) keep() {
 	}
 }
 
-// standing is what stands in a journal's file: its bytes, and how many groups behind a length.
+// standing is what stands in a journal's file: how many bytes count, and how many groups behind a length.
 type standing struct {
 	path   string
 	size   int64
@@ -110,22 +110,20 @@ func standingOf(path string, length int64) standing {
 	}
 	check(err)
 	defer file.Close()
-	s.size, err = file.Seek(0, io.SeekEnd)
-	check(err)
-	if from := length; s.size > from && from > 0 {
-		s.behind = behind(rest(file, from, s.size))
-	} else if from == 0 && s.size > 0 {
-		c := newChain()
-		c.from(io.NewSectionReader(file, 0, s.size))
-		s.behind = int(c.seals) + behind(rest(file, c.sealed, s.size))
-	}
+	s.size = counted(file)
+	s.behind = len(seals(rest(file, length)))
 	return s
 }
 
-func rest(file *os.File, from, size int64) []byte {
-	data := make([]byte, size-from)
-	_, err := file.ReadAt(data, from)
+// rest gives what stands in a file from a byte on, also behind what counts.
+func rest(file *os.File, from int64) []byte {
+	size, err := file.Seek(0, io.SeekEnd)
 	check(err)
+	data := make([]byte, clamp(size-from, 0, size))
+	_, err = file.ReadAt(data, from)
+	if len(data) > 0 {
+		check(err)
+	}
 	return data
 }
 

@@ -93,15 +93,25 @@ func TestNoteComesBack(t *testing.T) {
 
 func TestStanding(t *testing.T) {
 	path := filepath.Join(t.TempDir(), "book")
-	all := append(journal(4), gate)
+	whole := int64(len(journal(4)))
+	all := append(journal(4), make([]byte, 100)...)
 	os.WriteFile(path, all, 0o600)
 	for groups := 1; groups <= 4; groups++ {
-		if s := standingOf(path, int64(len(journal(groups)))); s.behind != 4-groups || s.size != int64(len(all)) {
+		if s := standingOf(path, int64(len(journal(groups)))); s.behind != 4-groups || s.size != whole {
 			t.Errorf("behind %d groups: %+v", groups, s)
 		}
 	}
 	if s := standingOf(path, 0); s.behind != 4 {
 		t.Errorf("from nothing on: %+v", s)
+	}
+	all[len(journal(2))+20] = bound // in the third group, of which the seal is whole still
+	os.WriteFile(path, all, 0o600)
+	if s := standingOf(path, int64(len(journal(2)))); s.behind != 2 || s.size != int64(len(journal(2))+20) {
+		t.Errorf("behind a zero: %+v", s)
+	}
+	os.WriteFile(path, make([]byte, 100), 0o600)
+	if s := standingOf(path, 0); s.size != 0 || s.behind != 0 {
+		t.Errorf("zeros: %+v", s)
 	}
 	if s := standingOf(path+"x", 0); s.size != 0 || s.behind != 0 {
 		t.Errorf("no file: %+v", s)

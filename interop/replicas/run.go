@@ -82,7 +82,7 @@ func follow(k *keys, l *hold, n *note, path, run string, again *starts) {
 		}
 		if who, _ := k.get("lock"); who == nil || string(who) == l.name { // an attempt costs the nodes a write, a look doesn't
 			if had, _ := l.take(); had {
-				m.file.Close()
+				m.close()
 				return
 			}
 		}

@@ -130,6 +130,7 @@ func (s *server) answer(words string, b *writer, m *mirror) {
 		if n, _ := fmt.Sscanf(words, "%d %d\n", &entries, &length); n != 2 {
 			lost("the server says %q", words)
 		}
+		m.open()
 		b.offer(m.file, m.sha, entries, length)
 		traced("told", b.run, entries, length)
 		reply = fmt.Sprintf("%d\n", entries)

@@ -26,7 +26,7 @@ func show(book string) {
 			lost("%v", err)
 		}
 		if r.at == h.length {
-			os.Stdout.Write([]byte{gate})
+			os.Stdout.Write([]byte{bound})
 			return
 		}
 	}

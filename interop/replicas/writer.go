@@ -138,9 +138,6 @@ func (w *writer) offer(file *os.File, sha hash.Hash, entries, length int64) {
 		data := make([]byte, clamp(length-at, 1, mostPiece))
 		_, err := file.ReadAt(data, at)
 		check(err)
-		if at == h.length {
-			opened(data, at)
-		}
 		sha.Write(data)
 		if end := at + int64(len(data)); end < length {
 			w.putPiece(putPatience, at, string(data))
@@ -155,14 +152,6 @@ func (w *writer) offer(file *os.File, sha hash.Hash, entries, length int64) {
 	shown.setPut(took, entries)
 	w.times = append(w.times, took)
 	w.written += length - h.length
-}
-
-// opened has a group begin as it does once its gate is open, which the server does meanwhile.
-func opened(data []byte, at int64) {
-	if data[0] != gate && data[0] != '8' {
-		lost("byte %d of the file is %q, where a group begins", at, data[0])
-	}
-	data[0] = '8'
 }
 
 func (w *writer) figures() string {

@@ -1,7 +1,8 @@
 //! What is counted of a server while it runs, for an operator: by whoever does it, read by whoever
 //! asks. It has no lock, so that nobody waits for a reader.
 
-use crate::cell::{Cell, ENDED, Work, add, add_at, load, zeros};
+use crate::cell::{Cell, ENDED, Work, add, add_at, add_reject, load, zeros};
+use crate::instructions::Instructions;
 use crate::log::Log;
 use crate::tallies::parts_in;
 use crate::times::Taken;
@@ -10,8 +11,12 @@ use gu_book::Book;
 use gu_command::MOST_WORKERS;
 use gu_limits::Size;
 use gu_log::{Event, Field, Key, Value};
+use gu_message::Reject;
 use gu_parties::House;
-use gu_status::{FirmEntries, Part, Pulses, REASONS, Snapshot, Syncs, mark_passed, stuck};
+use gu_status::{
+    CAUSES, Cause, Faults, FirmEntries, Part, Pulses, REASONS, REJECTS, RefusedLogons, Snapshot,
+    Syncs, mark_passed, stuck,
+};
 use indexmap::IndexMap;
 use jiff::Timestamp;
 use std::alloc::{AllocError, Global};
@@ -31,6 +36,8 @@ pub struct Board {
     alloc: Global,
     log: Log,
     logs_calls: bool,
+    /// What an operator has said.
+    instructions: Instructions,
     /// How many entries a firm may make, if that is limited.
     share: Option<u32>,
     /// The entries of each firm, in the order of the house file.
@@ -57,12 +64,19 @@ pub struct Board {
     accepted: AtomicU64,
     repeated: AtomicU64,
     refused: Vec<AtomicU64>,
+    /// The Rejects that were sent, for each of the `REJECT_REASONS`, the frames that were garbled,
+    /// and the messages that were dropped for a gap, or sent again.
+    rejects: Vec<AtomicU64>,
+    garbled: AtomicU64,
+    dropped: AtomicU64,
+    resent: AtomicU64,
     /// How long the disk took for groups, and behind that the other machines.
     disk: Taken,
     machines: Taken,
     synced: AtomicU64,
     slow: AtomicU64,
-    logons_refused: AtomicU64,
+    /// Connections that ended before a Logon was accepted, by their causes.
+    logons_refused: Vec<AtomicU64>,
     /// When the server began, in seconds from 1970 on.
     began: AtomicU64,
 }
@@ -126,6 +140,7 @@ impl Board {
             alloc,
             log,
             logs_calls,
+            instructions: Instructions::new(alloc, house)?,
             share,
             firms: firms_of(alloc, house)?,
             cells: cells_for(alloc, workers)?,
@@ -144,11 +159,15 @@ impl Board {
             accepted: AtomicU64::new(0),
             repeated: AtomicU64::new(0),
             refused: zeros(alloc, REASONS)?,
+            rejects: zeros(alloc, REJECTS)?,
+            garbled: AtomicU64::new(0),
+            dropped: AtomicU64::new(0),
+            resent: AtomicU64::new(0),
             disk: Taken::new(alloc)?,
             machines: Taken::new(alloc)?,
             synced: AtomicU64::new(0),
             slow: AtomicU64::new(0),
-            logons_refused: AtomicU64::new(0),
+            logons_refused: zeros(alloc, CAUSES)?,
             began: AtomicU64::new(0),
         })
     }
@@ -163,6 +182,16 @@ impl Board {
         &self.log
     }
 
+    /// What an operator has said.
+    pub fn instructions(&self) -> &Instructions {
+        &self.instructions
+    }
+
+    /// Whether connections are taken.
+    fn is_ready(&self) -> bool {
+        self.ready.load(Ordering::SeqCst) && !self.instructions.stops()
+    }
+
     /// The server begins now.
     pub(crate) fn begins<R: Clock>(&self, rt: &R) {
         if let Ok(moment) = Timestamp::now(rt) {
@@ -173,10 +202,35 @@ impl Board {
 
     /// Says an event.
     pub fn say<R: Wait + Clock>(&self, rt: &R, event: Event, fields: &[Field<'_>]) {
-        if event == Event::LogonRefused {
-            add(&self.logons_refused);
-        }
         self.log.say(rt, self.alloc, event, fields);
+    }
+
+    /// Counts a connection that has ended before a Logon was accepted, for this cause.
+    pub fn refuses_logon(&self, cause: Cause) {
+        for i in 0..CAUSES {
+            if Cause::ALL[i] == cause {
+                if let Some(count) = self.logons_refused.get(i) {
+                    add(count);
+                }
+            }
+        }
+    }
+
+    /// How many there were for each cause.
+    fn refused_logons(&self) -> [RefusedLogons; CAUSES] {
+        let mut refused = [RefusedLogons {
+            cause: Cause::NoMessage,
+            count: 0,
+        }; CAUSES];
+        for i in 0..CAUSES {
+            if let Some(count) = self.logons_refused.get(i) {
+                refused[i] = RefusedLogons {
+                    cause: Cause::ALL[i],
+                    count: load(count),
+                };
+            }
+        }
+        refused
     }
 
     /// Counts the entries of a book that was recovered, all of which are on the disk.
@@ -347,6 +401,14 @@ impl Board {
         }
     }
 
+    /// Adds the Rejects that a worker has sent in this turn to those of its connection, for each of
+    /// the `REJECT_REASONS`.
+    pub fn hand_rejects(&self, worker: u32, rejects: &mut [u64; REJECTS]) {
+        if let Some(cell) = self.cells.get(worker as usize) {
+            cell.hand_rejects(rejects);
+        }
+    }
+
     /// A worker serves the connection of this number from now on.
     pub fn serves(&self, worker: u32, connection: u64) {
         if let Some(cell) = self.cells.get(worker as usize) {
@@ -457,6 +519,72 @@ impl Board {
         self.say(rt, Event::Called, &fields);
     }
 
+    /// A worker answers a firm's message of this type by a Reject.
+    pub(crate) fn rejects<R: Wait + Clock>(
+        &self,
+        rt: &R,
+        worker: u32,
+        firm: &FirmId,
+        kind: &[u8],
+        reject: Reject,
+    ) {
+        add_reject(self.rejects.as_slice(), reject.reason);
+        let Some(cell) = self.cells.get(worker as usize) else {
+            return;
+        };
+        cell.count_reject(reject.reason);
+        if self.logs_calls {
+            let fields = [
+                number(Key::Connection, load(&cell.connection)),
+                text(Key::Firm, firm.as_bytes()),
+                text(Key::Type, kind),
+                number(Key::Tag, u64::from(reject.tag)),
+                number(Key::Reason, u64::from(reject.reason)),
+            ];
+            self.say(rt, Event::Rejected, &fields);
+        }
+    }
+
+    /// A worker has passed a garbled frame over.
+    pub(crate) fn passes_garbled(&self, worker: u32) {
+        add(&self.garbled);
+        if let Some(cell) = self.cells.get(worker as usize) {
+            add(&cell.garbled);
+        }
+    }
+
+    /// A worker drops a message for the gap before it.
+    pub(crate) fn drops(&self, worker: u32) {
+        add(&self.dropped);
+        if let Some(cell) = self.cells.get(worker as usize) {
+            add(&cell.dropped);
+        }
+    }
+
+    /// A worker sends so many messages again.
+    pub(crate) fn sends_again(&self, worker: u32, count: u64) {
+        self.resent.fetch_add(count, Ordering::SeqCst);
+        if let Some(cell) = self.cells.get(worker as usize) {
+            cell.resent.fetch_add(count, Ordering::SeqCst);
+        }
+    }
+
+    /// What went wrong between firms and the server.
+    fn faults(&self) -> Faults {
+        let mut rejects = [0u64; REJECTS];
+        for i in 0..REJECTS {
+            if let Some(count) = self.rejects.get(i) {
+                rejects[i] = load(count);
+            }
+        }
+        Faults {
+            rejects,
+            garbled: load(&self.garbled),
+            dropped: load(&self.dropped),
+            resent: load(&self.resent),
+        }
+    }
+
     /// The first part that hasn't moved for so many seconds.
     pub fn stuck(&self, most: u64) -> Option<Part> {
         let mut turned = [ENDED; MOST_WORKERS as usize];
@@ -532,7 +660,7 @@ impl Board {
         }
         Ok(Snapshot {
             began: load(&self.began),
-            is_ready: self.ready.load(Ordering::SeqCst),
+            is_ready: self.is_ready(),
             stuck: self.unhealthy(),
             entries: small(load(&self.entries)),
             most_entries: Number::MAX,
@@ -544,7 +672,8 @@ impl Board {
             accepted: load(&self.accepted),
             repeated: load(&self.repeated),
             refused,
-            logons_refused: load(&self.logons_refused),
+            faults: self.faults(),
+            logons_refused: self.refused_logons(),
             waiting_bytes: load(&self.waiting),
             syncs: self.snapshot_syncs(),
             lines_lost: self.log.lost(),

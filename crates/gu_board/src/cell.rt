@@ -1,7 +1,7 @@
 //! What is counted of a worker: by itself alone, and read by whoever asks.
 
 use gu_base::{Answer, Memory};
-use gu_status::REASONS;
+use gu_status::{REASONS, REJECT_REASONS, REJECTS};
 use std::alloc::{AllocError, Global};
 use std::sync::atomic::{AtomicU64, Ordering};
 
@@ -26,6 +26,14 @@ pub struct Cell {
     refused: AtomicU64,
     /// Those that were refused in this turn, by the refusal's number, from 1 on.
     reasons: Vec<AtomicU64>,
+    /// The Rejects that it has sent, and those of this turn for each of the `REJECT_REASONS`.
+    rejected: AtomicU64,
+    rejects: Vec<AtomicU64>,
+    /// The frames that were garbled, the messages that it has dropped for a gap, and those that it
+    /// has sent again.
+    pub garbled: AtomicU64,
+    pub dropped: AtomicU64,
+    pub resent: AtomicU64,
 }
 
 /// What a worker has read and made so far.
@@ -41,6 +49,14 @@ pub struct Work {
     pub repeated: u64,
     /// The calls that were refused.
     pub refused: u64,
+    /// The Rejects that were sent.
+    pub rejected: u64,
+    /// The frames that were garbled.
+    pub garbled: u64,
+    /// The messages that were dropped for a gap.
+    pub dropped: u64,
+    /// The messages that were sent again.
+    pub resent: u64,
 }
 
 impl Work {
@@ -52,6 +68,10 @@ impl Work {
             accepted: self.accepted.saturating_sub(before.accepted),
             repeated: self.repeated.saturating_sub(before.repeated),
             refused: self.refused.saturating_sub(before.refused),
+            rejected: self.rejected.saturating_sub(before.rejected),
+            garbled: self.garbled.saturating_sub(before.garbled),
+            dropped: self.dropped.saturating_sub(before.dropped),
+            resent: self.resent.saturating_sub(before.resent),
         }
     }
 
@@ -63,6 +83,10 @@ impl Work {
             accepted: self.accepted.saturating_add(after.accepted),
             repeated: self.repeated.saturating_add(after.repeated),
             refused: self.refused.saturating_add(after.refused),
+            rejected: self.rejected.saturating_add(after.rejected),
+            garbled: self.garbled.saturating_add(after.garbled),
+            dropped: self.dropped.saturating_add(after.dropped),
+            resent: self.resent.saturating_add(after.resent),
         }
     }
 
@@ -102,6 +126,26 @@ pub fn add_at(numbers: &[AtomicU64], refusal: u8) {
     }
 }
 
+/// Adds one to the number of a reason among those of the `REJECT_REASONS`.
+pub fn add_reject(numbers: &[AtomicU64], reason: u8) {
+    for i in 0..REJECTS {
+        if REJECT_REASONS[i] == reason {
+            if let Some(number) = numbers.get(i) {
+                add(number);
+            }
+        }
+    }
+}
+
+/// Moves numbers to others.
+fn move_to(from: &[AtomicU64], to: &mut [u64]) {
+    for i in 0..to.len() {
+        if let Some(count) = from.get(i) {
+            to[i] = to[i].saturating_add(count.swap(0, Ordering::SeqCst));
+        }
+    }
+}
+
 impl Cell {
     /// The cell of a worker that doesn't run yet.
     pub fn new(alloc: Global) -> Result<Cell, Memory> {
@@ -114,6 +158,11 @@ impl Cell {
             repeated: AtomicU64::new(0),
             refused: AtomicU64::new(0),
             reasons: zeros(alloc, REASONS)?,
+            rejected: AtomicU64::new(0),
+            rejects: zeros(alloc, REJECTS)?,
+            garbled: AtomicU64::new(0),
+            dropped: AtomicU64::new(0),
+            resent: AtomicU64::new(0),
         })
     }
 
@@ -129,6 +178,12 @@ impl Cell {
         }
     }
 
+    /// Counts a Reject for this reason.
+    pub fn count_reject(&self, reason: u8) {
+        add(&self.rejected);
+        add_reject(self.rejects.as_slice(), reason);
+    }
+
     /// What it has done so far.
     pub fn work(&self) -> Work {
         Work {
@@ -137,16 +192,21 @@ impl Cell {
             accepted: load(&self.accepted),
             repeated: load(&self.repeated),
             refused: load(&self.refused),
+            rejected: load(&self.rejected),
+            garbled: load(&self.garbled),
+            dropped: load(&self.dropped),
+            resent: load(&self.resent),
         }
     }
 
     /// Adds the calls that were refused in this turn to those of a connection. The next turn has
     /// none yet.
     pub fn hand_over(&self, reasons: &mut [u64; REASONS]) {
-        for i in 0..REASONS {
-            if let Some(count) = self.reasons.get(i) {
-                reasons[i] = reasons[i].saturating_add(count.swap(0, Ordering::SeqCst));
-            }
-        }
+        move_to(self.reasons.as_slice(), reasons);
+    }
+
+    /// The same of the Rejects.
+    pub fn hand_rejects(&self, rejects: &mut [u64; REJECTS]) {
+        move_to(self.rejects.as_slice(), rejects);
     }
 }

@@ -3,12 +3,14 @@
 //!
 //! - The `Board` has a cell of counts for each worker; `gu_status` makes pages of it.
 //! - The `Tallies` count what each firm has, for the limits that an operator sets.
+//! - The `Instructions` are what an operator has said while it runs.
 //! - A line of the log is written without waiting for a reader.
 //! - The `Teller` tells how far a recovery is; `VERSION` and `commit` say which program it is.
 #![tactic(auto)]
 
 mod board;
 mod cell;
+mod instructions;
 mod log;
 mod pace;
 mod saying;
@@ -19,6 +21,7 @@ mod version;
 
 pub use board::{Board, number, text};
 pub use cell::Work;
+pub use instructions::{Instructions, heed};
 pub use log::{Log, Written};
 pub use pace::Pace;
 pub use saying::{say_lack, say_started};

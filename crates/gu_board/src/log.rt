@@ -18,11 +18,11 @@ use std::time::{Clock, Duration};
 /// How many lines may wait for a reader. Where more come, they are lost and counted.
 const MOST_LINES: usize = 2048;
 
-/// How many may wait that tell of calls, so that others have room.
+/// How many may wait that tell of calls and Rejects, so that others have room.
 const MOST_CALLS: usize = 1024;
 
-/// How many lines an event of one kind has in a second, but for calls. Where more come, they are
-/// counted, and one line tells how many there were.
+/// How many lines an event of one kind has in a second, but for calls and Rejects. Where more come,
+/// they are counted, and one line tells how many there were.
 const MOST_A_SECOND: u64 = 50;
 
 /// How long the end of the program waits for a reader, in milliseconds.
@@ -176,9 +176,10 @@ impl Log {
         self.put(rt, alloc, Event::LinesLost, &fields, count);
     }
 
-    /// Counts an event in this second: whether it has a line. A call has one where there is room.
+    /// Counts an event in this second: whether it has a line. A call and a Reject have one where
+    /// there is room.
     fn has_line(&self, event: Event) -> bool {
-        if event == Event::Called {
+        if event == Event::Called || event == Event::Rejected {
             let has_room = self.to.len() < MOST_CALLS;
             if !has_room {
                 self.losses.lose(0);

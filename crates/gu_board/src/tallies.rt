@@ -11,7 +11,8 @@ use crate::saying::say_closed;
 use gu_base::{AllocId, Answer, Command, FirmId, Memory};
 use gu_book::Book;
 use gu_command::MOST_WORKERS;
-use gu_limits::{Ending, Limits, Size};
+use gu_limits::{Ending, Limits, Said, Size};
+use gu_message::Reject;
 use indexmap::IndexMap;
 use std::alloc::{AllocError, Global};
 use std::sync::atomic::{AtomicBool, AtomicU64, Ordering};
@@ -46,17 +47,18 @@ impl Closures {
         }
     }
 
-    /// The count of those that were closed for this.
-    fn of(&self, ending: Ending) -> &AtomicU64 {
+    /// The count of those that a limit has closed for this.
+    fn of(&self, ending: Ending) -> Option<&AtomicU64> {
         match ending {
-            Ending::Entries => &self.entries,
-            Ending::Parts => &self.parts,
-            Ending::Reserve => &self.reserve,
-            Ending::Memory => &self.memory,
-            Ending::NoMemory => &self.no_memory,
-            Ending::Held => &self.held,
-            Ending::Connections => &self.connections,
-            Ending::Silence => &self.silence,
+            Ending::Entries => Some(&self.entries),
+            Ending::Parts => Some(&self.parts),
+            Ending::Reserve => Some(&self.reserve),
+            Ending::Memory => Some(&self.memory),
+            Ending::NoMemory => Some(&self.no_memory),
+            Ending::Held => Some(&self.held),
+            Ending::Connections => Some(&self.connections),
+            Ending::Silence => Some(&self.silence),
+            Ending::Stops | Ending::Refused | Ending::PutOut => None,
         }
     }
 }
@@ -237,14 +239,25 @@ impl Tallies {
         }
     }
 
-    /// Notes that a connection of a firm is closed for this, so that it is told.
+    /// Notes that a connection of a firm is closed for this, so that it is told where that is a
+    /// limit.
     pub fn note(&self, firm: &FirmId, ending: Ending) {
         let closures = match self.firms.get(firm) {
             Some(tally) => &tally.closures,
             None => &self.own,
         };
-        closures.of(ending).fetch_add(1, Ordering::SeqCst);
-        self.news.store(true, Ordering::SeqCst);
+        if let Some(count) = closures.of(ending) {
+            count.fetch_add(1, Ordering::SeqCst);
+            self.news.store(true, Ordering::SeqCst);
+        }
+    }
+
+    /// What an operator has said of a firm's connections.
+    pub fn said_of(&self, firm: &FirmId) -> Said {
+        match self.board() {
+            Some(board) => board.instructions().of(firm),
+            None => Said::NOTHING,
+        }
     }
 
     /// The nanoseconds since the start; 0 where the clock can't be read.
@@ -294,9 +307,14 @@ impl Tallies {
     }
 
     /// Counts a call of a firm with so many parts that is to be made; or tells why it isn't, and
-    /// then it doesn't count. A firm's isn't made where memory lacks for the next entry.
+    /// then it doesn't count. None is made once the server stops, none of a firm that isn't let in,
+    /// and none of a firm where memory lacks for the next entry.
     pub fn begin_call(&self, firm: &FirmId, parts: u64) -> Result<(), Ending> {
         let is_house = *firm == self.house;
+        let said = self.said_of(firm);
+        if let Some(ending) = said.ending(said.put_out) {
+            return Err(ending);
+        }
         if !is_house && self.lacks_memory() {
             self.note(firm, Ending::Memory);
             return Err(Ending::Memory);
@@ -393,6 +411,41 @@ impl Tallies {
         }
     }
 
+    /// Notes that a worker answers a firm's message of this type by a Reject.
+    pub fn note_reject<R: Wait + Clock>(
+        &self,
+        rt: &R,
+        worker: u32,
+        firm: &FirmId,
+        kind: &[u8],
+        reject: Reject,
+    ) {
+        if let Some(board) = self.board() {
+            board.rejects(rt, worker, firm, kind, reject);
+        }
+    }
+
+    /// Notes that a worker has passed a garbled frame over.
+    pub fn note_garbled(&self, worker: u32) {
+        if let Some(board) = self.board() {
+            board.passes_garbled(worker);
+        }
+    }
+
+    /// Notes that a worker drops a message for the gap before it.
+    pub fn note_dropped(&self, worker: u32) {
+        if let Some(board) = self.board() {
+            board.drops(worker);
+        }
+    }
+
+    /// Notes that a worker sends so many messages again.
+    pub fn note_resent(&self, worker: u32, count: u64) {
+        if let Some(board) = self.board() {
+            board.sends_again(worker, count);
+        }
+    }
+
     /// Notes that a worker has read so many bytes.
     pub fn note_read(&self, worker: u32, bytes: usize) {
         if let Some(board) = self.board() {
@@ -442,8 +495,11 @@ impl Tallies {
 
     /// Says that connections of a firm were closed, and why.
     fn tell_closures<R: Wait + Clock>(&self, rt: &R, firm: &FirmId, closures: &Closures) {
-        for ending in Ending::ALL {
-            let count = closures.of(ending).swap(0, Ordering::SeqCst);
+        for ending in Ending::OF_LIMITS {
+            let Some(count) = closures.of(ending) else {
+                continue;
+            };
+            let count = count.swap(0, Ordering::SeqCst);
             if count > 0 {
                 say_closed(rt, self.board(), firm, ending, count);
             }

@@ -2,18 +2,18 @@
 use Rattle.gu_book.proofs
 use Rattle.gu_book.specs
 use proofs.{AllShown.undone, Keeps.{kept_change, kept_consents, kept_reverse, lawful, live_few, live_more, next_number}}
-use proofs.{Leaves.live_rises, LookedUp.{reversals_put, reversals_same}}
+use proofs.{Leaves.live_rises, LookedUp.{first_added, reversals_put, reversals_same}}
 use proofs.Vocabulary.{arith, cond, Consents, Entry, found_in, get_or, given, House}
-use proofs.Vocabulary.{Ids, is_change, known_entry, length, List, live, LiveState, numbered_as, Record, Reversals}
+use proofs.Vocabulary.{is_change, known_entry, length, List, live, LiveState, numbered_as, Record, Reversals}
 use proofs.Vocabulary.{Reverse, same_Some, Some, sym, true, without, [], ℕ, ◌++◌, ◌+◌, ◌-◌, ◌==◌, ◌∙◌, ◌∷◌, ◌≡◌}
 use Rattle.gu_base.proofs.LiveLaws.{change_is_no_reverse, consent_is_no_reverse, live_push_consent, live_push_reverse}
 use Rattle.gu_depend.proofs.Vocabulary.{Accepted, answer_to, call_of, Decline, Initiate, is_consenting}
-use specs.{declared.lookups.Lookups.Lookups, Found.AreTreesOf, Kept.{IsBook, IsKept}}
+use specs.{Found.AreTreesOf, Kept.{IsBook, IsKept}}
 use specs.LiveState.{Becomes, CanFollow, CanGo, IsLiveList, IsStateOf}
-use specs.Lookups.{AreIdsOf, AreReversalsOf, reversal_in}
+use specs.Lookups.{AreReversalsOf, reversal_in}
 
-module _ {t : House} {h : List Entry} {cs : Consents} {lookups : Lookups} {s : LiveState}
-    (book : IsBook t h cs lookups s) where
+module _ {t : House} {h : List Entry} {cs : Consents} {reversals : Reversals} {s : LiveState}
+    (book : IsBook t h cs reversals s) where
   -- the live changes are a list that a book may have
   pub list_live : IsLiveList t (live h)
   list_live = record {
@@ -26,14 +26,15 @@ module _ {t : House} {h : List Entry} {cs : Consents} {lookups : Lookups} {s : L
   pub trees_kept : AreTreesOf (live h) s.trees
   trees_kept = record { house = t; filed = book.state.filed; replayed = book.kept.replayed; rises = live_rises h }
 
-  -- ids and reversals have got room, and the state says the same
-  pub still : (ids : Ids) → AreIdsOf ids h → (rs : Reversals)
-      → ((m : ℕ) → reversal_in rs m ≡ reversal_in lookups.reversals m) → (now : LiveState)
-      → IsStateOf t (live h) (length h + 1) now → IsBook t h cs (record { ids = ids; reversals = rs }) now
-  still ids known rs same now is = record {
+  -- the reversals have got room, and the state says the same
+  pub still : (rs : Reversals) → ((m : ℕ) → reversal_in rs m ≡ reversal_in reversals m) → (now : LiveState)
+      → IsStateOf t (live h) (length h + 1) now → IsBook t h cs rs now
+  still rs same now is = record {
     kept = book.kept;
-    looked_up =
-        record { ids = known; reversals = record { numbers = λ m. same m ∙ book.looked_up.reversals.numbers m } };
+    looked_up = record {
+      ids = book.looked_up.ids;
+      reversals = record { numbers = λ m. same m ∙ book.looked_up.reversals.numbers m };
+    };
     state = is;
   }
 
@@ -73,20 +74,20 @@ module _ {t : House} {h : List Entry} {cs : Consents} {lookups : Lookups} {s : L
           change = is.change;
         }
 
-    module _ (ids : Ids) (known : AreIdsOf ids (h ++ e ∷ [])) where
+    module _ where
       -- what an accepted entry leaves, of any kind
       book_next : (l : List Record) → l ≡ live (h ++ e ∷ []) → {ds : Consents} → IsKept t (h ++ e ∷ []) ds
           → {rs : Reversals} → AreReversalsOf rs (h ++ e ∷ []) → {now : LiveState} → IsStateOf t l (n + 1) now
-          → IsBook t (h ++ e ∷ []) ds (record { ids = ids; reversals = rs }) now
-      book_next l is kept reversals {now} state = record {
+          → IsBook t (h ++ e ∷ []) ds rs now
+      book_next l is kept are {now} state = record {
         kept = kept;
-        looked_up = record { ids = known; reversals = reversals };
+        looked_up = record { ids = first_added book.looked_up.ids t e n ok; reversals = are };
         state = rw ((next_number book.kept n e ok).1) (rw is at state);
       }
 
       pub book_more : (change : is_change e.command ≡ true) → (now : LiveState)
           → IsStateOf t (live h ++ numbered_as n e ∷ []) (n + 1) now
-          → IsBook t (h ++ e ∷ []) cs (record { ids = ids; reversals = lookups.reversals }) now
+          → IsBook t (h ++ e ∷ []) cs reversals now
       book_more change now state =
           book_next _ (live_more book.kept n e ok change) (kept_change book.kept n e ok change)
           (reversals_same book.looked_up.reversals e (λ m. change_is_no_reverse m _ change)) state
@@ -106,7 +107,7 @@ module _ {t : House} {h : List Entry} {cs : Consents} {lookups : Lookups} {s : L
       pub book_consenting : is_consenting e.command ≡ true → (ds : Consents)
           → ((k m : ℕ) → e.command ≡ Initiate k → given ds m ≡ cond (m == k) (given cs m ++ e.firm ∷ []) (given cs m))
           → ((k m : ℕ) → e.command ≡ Decline k → given ds m ≡ cond (m == k) [] (given cs m))
-          → IsBook t (h ++ e ∷ []) ds (record { ids = ids; reversals = lookups.reversals }) s
+          → IsBook t (h ++ e ∷ []) ds reversals s
       book_consenting consents ds gives clears =
           book_next _ (sym (live_push_consent h e consents)) (kept_consents book.kept n e ok consents ds gives clears)
           (reversals_same book.looked_up.reversals e (λ m. consent_is_no_reverse m _ consents)) (later _ s book.state)
@@ -115,9 +116,9 @@ module _ {t : House} {h : List Entry} {cs : Consents} {lookups : Lookups} {s : L
       pub book_less : (k : ℕ) → e.command ≡ Reverse k → (now : LiveState)
           → Becomes t (live h) (without (live h) k) s now → (ds : Consents)
           → ((m : ℕ) → given ds m ≡ cond (m == k) [] (given cs m)) → (mid rs : Reversals)
-          → ((m : ℕ) → reversal_in mid m ≡ reversal_in lookups.reversals m)
+          → ((m : ℕ) → reversal_in mid m ≡ reversal_in reversals m)
           → ((m : ℕ) → reversal_in rs m ≡ cond (k == m) (Some n) (reversal_in mid m))
-          → IsBook t (h ++ e ∷ []) ds (record { ids = ids; reversals = rs }) now
+          → IsBook t (h ++ e ∷ []) ds rs now
       book_less k reverse now gone ds cleared mid rs same put =
           book_next _ (sym (live_push_reverse h e k reverse)) (kept_reverse book.kept n e ok k reverse ds cleared)
           (reversals_put book.looked_up.reversals t e n k ok reverse rs

@@ -10,7 +10,8 @@ use proofs.{Standings.{has_taken, positions_moved, row_fits}, Undoing.{fees_with
 use proofs.Vocabulary.{added_by, All-contains, AllWithinLimits, ap, append-nil, AreFeesOf, ArePositionsOf, AreTermsOf}
 use proofs.Vocabulary.{arith, charge_of, Command, counted_at, DecidesNode, EntryPart, facts, false, filter_map}
 use proofs.Vocabulary.{Grove, HaveMoved, HaveRoom, Holding, holding_away, holding_of, House, is_change, is_claim}
-use proofs.Vocabulary.{is_of_trees, IsFree, IsGroveOf, IsNext, IsOfTerms, IsSomeAnd, Key, length, List, LiveState}
+use proofs.Vocabulary.{is_of_trees, IsFree, IsGroveOf, IsNext, IsOfTerms, IsSmallDeed, IsSomeAnd, Key, length, List}
+use proofs.Vocabulary.{LiveState}
 use proofs.Vocabulary.{lookup, lots_in, named_place, Node, node_of, None, Option, option_and_then, pair_of, Part}
 use proofs.Vocabulary.{part_away, PositionRows, Record, refl, same_Some, Settled, SettledAs, Side, Some, Split, sum_by}
 use proofs.Vocabulary.{sum_by-cons, sym, taken_by, Trade, true, without, [], ℕ, ◌++◌, ◌+◌, ◌<◌, ◌^◌, ◌∙◌, ◌∷◌, ◌≡◌, ◌≤◌}
@@ -21,7 +22,7 @@ use Rattle.gu_depend.proofs.TermsFollow.{apart_follows, nobody_follows, put_foll
 use Rattle.{gu_depend.specs.Terms.pair_of_kind, gu_fees.specs.{Pairs.{HasRoomFor, PairView}, Rows.{FeeRows, is_pair}}}
 use Rattle.gu_fees.specs.Terms.{CanPut, CanPutAt, IsPut, IsReady, IsTakenOut, last_entry, row_of, TermsView}
 use Rattle.gu_tree.specs.{Changes.is_given_back, Shown.GivesBack}
-use specs.{Dealing.{CanClaim, HasRoomForClaim, IsClaimed, IsSmallDeed, place_of_kind}, LiveState.CanFollow}
+use specs.{Dealing.{CanClaim, HasRoomForClaim, IsClaimed, place_of_kind}, LiveState.CanFollow}
 use Vocabulary.{Agree, Cancel, Charge, charge_of_node, Claim, Dealing, Deed, deed_of, Given, is_given, Kind}
 use Vocabulary.{Makes, Pair, Raise, raised_under, Raises, Refuse, SplitHolds, State, state_after, used_under, Uses}
 

@@ -1,11 +1,11 @@
 -- The book may go to another thread: what it owns says the same to each.
-use Rattle.gu_base.proofs.entry.Entry.TheSendSync as entry
 use Rattle.gu_base.proofs.numbers.Number.TheSendSync as number
-use Rattle.gu_book.proofs.lookups.Lookups.TheSendSync as lookups
+use Rattle.gu_book.proofs.lookups.Reversals.TheSendSync as reversals
 use Rattle.gu_book.specs.contracts.book.Book as Book
 use Rattle.gu_consent.proofs.Consents.TheSendSync as consents
 use Rattle.gu_fees.proofs.fees.Fees.TheSendSync as fees
 use Rattle.gu_fees.proofs.terms.Terms.TheSendSync as terms
+use Rattle.gu_ids.proofs.history.History.TheSendSync as history
 use Rattle.gu_parties.proofs.house.House.TheSendSync as house
 use Rattle.gu_positions.proofs.positions.Positions.TheSendSync as positions
 use Rattle.gu_sums.proofs.filing.Filing.TheSendSync as filing
@@ -32,10 +32,10 @@ pub book_send : IsSend Book.the_row
 book_send =
     search (
       house.the_send,
-      entry.the_send,
       trees_send,
       consents.the_field_send,
-      lookups.the_field_send,
+      history.the_send,
+      reversals.the_field_send,
       fees.the_send,
       positions.the_send,
       terms.the_send,

@@ -8,8 +8,8 @@ use proofs.Vocabulary.{Raise, raised_under, Raises, terms_of, use_of_kind, use_o
 use Rattle.gu_base.proofs.{Dealt.all_sound, Sums.sum_option}
 use Rattle.gu_base.specs.{Limits.highest_limit, Terms.{made_by_deed, made_in, raised_by_deed, used_by_deed}}
 use Rattle.gu_book.proofs.{Charging.{fewer_given, sum_most}, Leaves.cond_same, Within.node_within}
-use Rattle.gu_book.specs.{Charging.AreUsesOf, Dealing.IsSmallDeed}
-use Rattle.gu_fees.specs.{Rows.FeeRows, Terms.{row_of, TermsView}}
+use Rattle.gu_book.proofs.Takings.{IsSmallDeed}
+use Rattle.gu_fees.specs.{Rows.{FeeRows, used_in}, Terms.{row_of, TermsView}}
 use Vocabulary.{agreement, All, All-cons, All-contains_itself}
 use Vocabulary.{All-head, All-nil, All-tail, All-weaker, AllWithinLimits, ap, AreFeesOf, AreTermsOf, arith}
 use Vocabulary.{Bool, bytes_eq, charge_of, Command, cond, Contains, facts, false, filter, filter_map, first_refused}
@@ -117,7 +117,7 @@ module _ (t : House) (l : List Record) (none : first_refused t [] l ≡ None) wh
       (λ r there. change_charged g k r.firm r.command (λ x y d deals. has_terms x y r d there deals)) l
       (All-contains_itself l))
 
-  pub uses_are : (fees : FeeRows) → AreFeesOf t l fees → AreUsesOf l fees
+  pub uses_are : (fees : FeeRows) → AreFeesOf t l fees → (g k : List ℕ) → used_in fees g k ≡ used_of l g k
   uses_are fees are g k = are.sums.used g k ∙ uses_charged g k
 
 -- ---- small dealings

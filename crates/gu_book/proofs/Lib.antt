@@ -1,4 +1,5 @@
 pub mod Vocabulary
+pub mod Takings
 pub mod ByNumber
 pub mod Within
 pub mod Refused

@@ -4,14 +4,14 @@ use Rattle.gu_depend.proofs.Vocabulary
 use proofs.{AllShown.undone, ByNumber.{its_own, numbered_some, records_once}, Once.{both_found, none_of_both, once_at}}
 use proofs.Vocabulary.{AllByRecursion, allowed, and_parts, ap, arith, Bool, bytes_eq, bytes_eq-Decides}
 use proofs.Vocabulary.{Call, cond, count_by, Entry, entry_of, eqb-true, false, find, find-append, found_at}
-use proofs.Vocabulary.{found_in, get_or, House, Ids, IsDistinct-head, IsDistinct-tail, known_entry, length, List}
+use proofs.Vocabulary.{found_in, get_or, House, IsDistinct-head, IsDistinct-tail, known_entry, length, List}
 use proofs.Vocabulary.{None, numbered_as, numbered_from, option_and_then, option_map, Record, records, refl, Reversals}
 use proofs.Vocabulary.{Reverse, Some, suc, sym, true, [], ℕ, ◌&&◌, ◌++◌, ◌+◌, ◌-◌, ◌<◌, ◌==◌, ◌∙◌, ◌∷◌, ◌≡◌, ◌≤◌}
 use Rattle.gu_base.proofs.{Basics.{bytes_symm, mapped_none, or_none}, LiveLaws.numbered_push}
 use Rattle.gu_base.specs.declared.entry.Answer.TheVariants.{Refused}
-use Rattle.gu_book.specs.{Ids.{NoIdTwice, same_id}, Lookups.{AreIdsOf, AreReversalsOf, number_of, reversal_in}}
+use Rattle.gu_book.specs.{Ids.{NoIdTwice, same_id}, Lookups.{AreReversalsOf, IsNewestFirst, number_of, reversal_in}}
 use Rattle.gu_depend.proofs.Finds.{by_test, count_cons}
-use Rattle.gu_ids.{proofs.{NewestLaws.newest_push, Walk.count_is}, specs.Chains.{AreIdsOf as AreChainsOf, count}}
+use Rattle.gu_ids.proofs.NewestLaws.{newest_push}
 use Vocabulary.{Accepted, Answer, answer_by, answer_to}
 use Vocabulary.{call_of, DuplicateId, is_reverse_of, is_same_call, is_same_id, most_entries, Repeated, same_command}
 
@@ -30,30 +30,29 @@ number_push p h e n number none =
 
 -- ---- ids
 
-module _ {h : List Entry} {ids : Ids} (are : AreIdsOf ids h) (t : House) (e : Entry) (n : ℕ)
-    (ok : answer_to t h (call_of e) ≡ Accepted n e.status) where
-  -- there is a number for an accepted entry
-  pub ids_fewer : count ids < most_entries
-  ids_fewer = omega (arith, count_is, (allowed t h e n ok).room)
+-- there is a number for an accepted entry
+pub entries_fewer : (t : House) (h : List Entry) (e : Entry) (n : ℕ)
+    → answer_to t h (call_of e) ≡ Accepted n e.status → length h < most_entries
+entries_fewer t h e n ok = (allowed t h e n ok).room
 
-  -- its id, added
-  pub ids_added : (added : Ids) → AreChainsOf added (h ++ e ∷ []) → AreIdsOf added (h ++ e ∷ [])
-  ids_added added is_added =
-      let a = allowed t h e n ok in
-      let last : suc (length h) ≡ n = omega arith in
-      record {
-        chained = is_added;
-        numbers = λ c.
-            cc (
-              number_push _ h e n a.number (λ same. let p = and_parts _ _ same in
-                  let firm = sym ((bytes_eq-Decides e.firm c.firm).0 p.0) in let id : c.id
-                  ≡ e.id = sym ((bytes_eq-Decides e.id c.id).0 p.1) in
-                  (λ i. find (λ (r : Record). bytes_eq r.firm (firm i) && bytes_eq r.id (id i)) (records h)) ∙ a.id),
-              newest_push h e c.firm c.id,
-              last,
-              are.numbers c,
-            );
-      }
+-- its id is the first
+pub first_added : {h : List Entry} → IsNewestFirst h → (t : House) (e : Entry) (n : ℕ)
+    → answer_to t h (call_of e) ≡ Accepted n e.status → IsNewestFirst (h ++ e ∷ [])
+first_added {h} are t e n ok =
+    let a = allowed t h e n ok in
+    let last : suc (length h) ≡ n = omega arith in
+    record {
+      numbers = λ c.
+          cc (
+            number_push _ h e n a.number (λ same. let p = and_parts _ _ same in
+                let firm = sym ((bytes_eq-Decides e.firm c.firm).0 p.0) in let id : c.id
+                ≡ e.id = sym ((bytes_eq-Decides e.id c.id).0 p.1) in
+                (λ i. find (λ (r : Record). bytes_eq r.firm (firm i) && bytes_eq r.id (id i)) (records h)) ∙ a.id),
+            newest_push h e c.firm c.id,
+            last,
+            are.numbers c,
+          );
+    }
 
 -- ---- the call that an id names
 
@@ -152,7 +151,3 @@ module _ {h : List Entry} {rs : Reversals} (are : AreReversalsOf rs h) where
               tested,
             );
       }
-
--- there is a number for one entry more
-pub ids_few : {h : List Entry} {ids : Ids} → AreIdsOf ids h → length h ≤ most_entries → count ids ≤ most_entries
-ids_few {h} {ids} are few = omega (arith, count_is)

@@ -19,7 +19,6 @@ pub use proofs.Vocabulary.{on_change, parent, Part, parties_of, Record, records,
 pub use proofs.Vocabulary.{Root, same_name, same_side, same_Some, Side, Split, split_row, suc, Trade, without, ◌||◌}
 pub use Rattle.gu_consent.specs.{declared.Consents.Consents, Given.given}
 pub use Rattle.gu_depend.specs.{Moves.lots_at, Terms.{AreTermsOf, pair_of}, Under.names}
-pub use Rattle.gu_ids.specs.declared.ids.Ids.{Ids}
 pub use Rattle.gu_positions.specs.{declared.positions.Key.Key, Rows.{is_key, lots_in, PositionRows}}
 pub use Rattle.gu_tree.specs.{declared.head.Head.Head, Grove.{Grove, IsPlace, last_place}, Rose.{head_of, Rose}}
 pub use Rattle.gu_tree.specs.{Shown.{DecidesNode, named_node}, ShownAll.{change_of, IsTreeIn, named_place, place_in}}
@@ -27,8 +26,9 @@ pub use specs.{Charging.AreFeesOf, declared.found.{Found.Found, Named.Named, Und
 pub use specs.declared.{live_state.{Addition.Addition, LiveState.LiveState}, lookups.Reversals.Reversals}
 pub use specs.{declared.{rules.holdings.Holding.Holding, undo.Undo.Undo}, Filed.{IsFree, IsGroveOf, IsNext}}
 pub use specs.Holdings.{added_by, ArePositionsOf, counted_at, deal_of, HaveMoved, HaveRoom, HaveThere, held_above}
-pub use specs.Holdings.{held_at, holding_away, holding_of, part_away, part_holding, taken_at, taken_by, traded_at}
-pub use specs.{Kinds.{is_claim, IsOfTerms}, Limits.{AllWithinLimits, IsWithinLimits}, Live.{entry_of_change, IsLiveAt}}
+pub use Rattle.gu_book.proofs.Takings.{is_claim, IsSmallDeed, taken_by}
+pub use specs.Holdings.{held_at, holding_away, holding_of, part_away, part_holding, taken_at, traded_at}
+pub use specs.{Kinds.IsOfTerms, Limits.{AllWithinLimits, IsWithinLimits}, Live.{entry_of_change, IsLiveAt}}
 pub use specs.{Live.record_of, Seen.{BookView, stored}, TreeRows.{is_live_trade, is_trade}, Visits.is_of_trees}
 pub use std.proofs.Common.{All, ap, append-nil, append_assoc, arith, Bool, bytes_eq, cond, Contains}
 pub use std.proofs.Common.{count_by, drop, false, filter, filter_map, find, get_or, IfSome, inl, inr, is_none, is_some}

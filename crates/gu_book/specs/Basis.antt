@@ -7,9 +7,8 @@ use Rattle.gu_base.specs.Limits.{most_entries}
 use Rattle.gu_base.specs.declared.entry.Entry.{Entry}
 use Rattle.gu_base.specs.declared.refusal.Refusal.{Refusal}
 use Rattle.gu_book.specs.Ids.{NoIdTwice}
-use Rattle.gu_book.specs.Lookups.{AreLookupsOf}
+use Rattle.gu_book.specs.Lookups.{IsNewestFirst}
 use Rattle.gu_book.specs.declared.found.Named.{Named}
-use Rattle.gu_book.specs.declared.lookups.Lookups.{Lookups}
 use Rattle.gu_book.specs.declared.undo.Undo.{Undo}
 use Rattle.gu_consent.specs.Given.{given}
 use Rattle.gu_consent.specs.declared.Consents.{Consents}
@@ -26,10 +25,10 @@ pub record BasisView : Type 0 where
   pub standing : Option ℕ
 
 -- what is kept beside the history is that of the history
-pub record IsBasis (t : House) (h : List Entry) (terms : TermsView) (lookups : Lookups)
-    (consents : Consents) : Type 0 where
+pub record IsBasis (t : House) (h : List Entry) (terms : TermsView) (consents : Consents)
+    : Type 0 where
   pub few : length h ≤ most_entries
   pub once : NoIdTwice h
-  pub looked_up : AreLookupsOf lookups h
+  pub ids : IsNewestFirst h
   pub dealt : AreTermsOf t (live h) terms
   pub consented : (n : ℕ) → given consents n ≡ consents_left h n

@@ -1,13 +1,12 @@
 -- The running sums of what the live claims cost.
-use Rattle.std.specs.Prelude.{◌≡◌, ◌≤◌, ℕ, List, Option, Some, None}
+use Rattle.std.specs.Prelude.{◌≤◌, List, Option, Some, None}
 use Rattle.std.specs.List.{All}
 use Rattle.gu_base.specs.Limits.{most_lots, highest_rate}
 use Rattle.gu_base.specs.House.{House}
 use Rattle.gu_base.specs.Fees.{charges}
 use Rattle.gu_base.specs.declared.entry.Record.{Record}
 use Rattle.gu_base.specs.declared.node.Charge.{Charge}
-use Rattle.gu_base.specs.Terms.{used_of}
-use Rattle.gu_fees.specs.Rows.{FeeRows, used_in, HasRoom, CanUncharge}
+use Rattle.gu_fees.specs.Rows.{FeeRows, HasRoom, CanUncharge}
 use Rattle.gu_fees.specs.Sums.{AreSumsOf}
 
 -- at most 10,000,000 lots, at a rate of at most 100,000
@@ -19,10 +18,6 @@ pub record IsSmallCharge (c : Charge) : Type 0 where
 pub record AreFeesOf (t : House) (l : List Record) (fees : FeeRows) : Type 0 where
   pub sums : AreSumsOf fees (charges t l)
   pub small : All IsSmallCharge (charges t l)
-
--- the lots of each giver and taker are those of their claims
-abbrev pub AreUsesOf : List Record → FeeRows → Type 0
-AreUsesOf l fees = (giver taker : List ℕ) → used_in fees giver taker ≡ used_of l giver taker
 
 -- each sum has room for the charge, if there is one
 abbrev pub HasRoomFor : FeeRows → Option Charge → Type 0

@@ -1,14 +1,11 @@
 -- The terms that a book keeps, and what is dealt under them.
-use Rattle.std.specs.Prelude.{◌≡◌, ℕ, ◌≤◌, Option, None}
+use Rattle.std.specs.Prelude.{◌≡◌, ℕ, Option, None}
 use Rattle.std.specs.Map.{lookup}
-use Rattle.gu_base.specs.Limits.{most_lots, highest_limit}
-use Rattle.gu_base.specs.declared.house.Deed.{Deed}
-use Rattle.gu_base.specs.declared.house.Deed.TheVariants.{Makes, Raises, Uses}
+use Rattle.gu_base.specs.declared.house.Deed.TheVariants.{Uses}
 use Rattle.gu_base.specs.declared.node.Kind.{Kind}
 use Rattle.gu_base.specs.declared.node.Kind.TheVariants.{Given}
 use Rattle.gu_fees.specs.Rows.{is_pair}
 use Rattle.gu_fees.specs.Terms.{TermsView, CanPut, IsPut, IsReady}
-use Rattle.gu_book.specs.Limits.{TermsWithinLimits}
 
 -- where the giver and the taker of a node stand, if it is given
 abbrev pub place_of_kind : TermsView → Kind → Option ℕ
@@ -31,10 +28,3 @@ abbrev pub IsClaimed : TermsView → TermsView → ℕ → ℕ → Kind → Type
 IsClaimed old new number lots (Given _ giver taker) =
     IsPut old new giver taker (record { number = number; deed = Uses lots })
 IsClaimed old new number lots _ = new ≡ old
-
--- terms within their limits, a raise of at most 10,000,000,000,000 lots, a claim of at most
--- 10,000,000
-abbrev pub IsSmallDeed : Deed → Type 0
-IsSmallDeed (Makes terms) = TermsWithinLimits terms.rate terms.limit
-IsSmallDeed (Raises lots) = lots ≤ highest_limit
-IsSmallDeed (Uses lots) = lots ≤ most_lots

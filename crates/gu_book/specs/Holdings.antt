@@ -44,12 +44,6 @@ held_at (Some p) (Some t) lots = Some (record {
 abbrev pub holding_of : List Record → Node → Option Holding
 holding_of l x = held_at (place_of l x.name) (traded_at l x.name) x.lots
 
--- what a change takes out of an account: a Split and a Claim the lots of the node that they name
-abbrev pub taken_by : List Record → Command → Option Holding
-taken_by l (Split n _) = option_and_then (holding_of l) (node_of l n)
-taken_by l (Claim n _) = option_and_then (holding_of l) (node_of l n)
-taken_by l _ = None
-
 -- the lots of a node, where the node above it stands
 abbrev pub held_above : List Record → Node → Option Holding
 held_above l x = held_at (option_and_then (place_of l) (parent x.kind)) (traded_at l x.name) x.lots

@@ -19,7 +19,7 @@ use Rattle.gu_book.specs.Lookups.{AreLookupsOf}
 use Rattle.gu_book.specs.Seen.{BookView}
 use Rattle.gu_book.specs.declared.live.Change.{Change}
 use Rattle.gu_book.specs.declared.live_state.LiveState.{LiveState}
-use Rattle.gu_book.specs.declared.lookups.Lookups.{Lookups}
+use Rattle.gu_book.specs.declared.lookups.Reversals.{Reversals}
 
 -- each of these entries is what is accepted after those before it
 abbrev pub AcceptedFrom : House → List Entry → List Entry → Type 0
@@ -54,8 +54,8 @@ pub record IsKept (house : House) (history : List Entry) (consents : Consents) :
 
 -- all that a book keeps: the same, that its look-ups are those of the history, and its state is
 -- that of the live changes
-pub record IsBook (house : House) (history : List Entry) (consents : Consents) (lookups : Lookups)
-    (s : LiveState) : Type 0 where
+pub record IsBook (house : House) (history : List Entry) (consents : Consents)
+    (reversals : Reversals) (s : LiveState) : Type 0 where
   pub kept : IsKept house history consents
-  pub looked_up : AreLookupsOf lookups history
+  pub looked_up : AreLookupsOf reversals history
   pub state : IsStateOf house (live history) (length history + 1) s

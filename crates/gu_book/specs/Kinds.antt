@@ -1,11 +1,7 @@
 -- Which command it is.
 use Rattle.std.specs.Prelude.{◌≡◌, Bool, true, false}
 use Rattle.gu_base.specs.declared.command.Command.{Command}
-use Rattle.gu_base.specs.declared.command.Command.TheVariants.{Claim, Agree, Raise}
-
-abbrev pub is_claim : Command → Bool
-is_claim (Claim _ _) = true
-is_claim _ = false
+use Rattle.gu_base.specs.declared.command.Command.TheVariants.{Agree, Raise}
 
 -- one that makes terms or raises their limit
 abbrev pub is_of_terms : Command → Bool

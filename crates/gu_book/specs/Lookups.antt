@@ -5,10 +5,7 @@ use Rattle.gu_base.specs.Numbers.{is_number}
 use Rattle.gu_base.specs.History.{records}
 use Rattle.gu_base.specs.Answers.{Call, is_same_id, reversal_of}
 use Rattle.gu_base.specs.declared.entry.Entry.{Entry}
-use Rattle.gu_ids.specs.declared.ids.Ids.{Ids}
-use Rattle.gu_ids.specs.Chains.{AreIdsOf as AreChainsOf}
 use Rattle.gu_ids.specs.Newest.{newest_of}
-use Rattle.gu_book.specs.declared.lookups.Lookups.{Lookups}
 use Rattle.gu_book.specs.declared.lookups.Reversals.{Reversals}
 
 -- an entry's number; 0 is none
@@ -27,15 +24,14 @@ HasRoomAt reversals entry = entry < length reversals.numbers.items
 abbrev pub number_of : List Entry → Call → Option ℕ
 number_of h c = option_map (λ r. r.number) (find (is_same_id c) (records h))
 
--- their chains are those of the history, and the newest entry of each firm and id is the first
-pub record AreIdsOf (ids : Ids) (h : List Entry) : Type 0 where
-  pub chained : AreChainsOf ids h
+-- the newest entry of each firm and id is the first
+pub record IsNewestFirst (h : List Entry) : Type 0 where
   pub numbers : (c : Call) → newest_of h c.firm c.id ≡ number_of h c
 
 -- at each entry, the number of the first Reverse in the history that names it
 pub record AreReversalsOf (reversals : Reversals) (h : List Entry) : Type 0 where
   pub numbers : (n : ℕ) → reversal_in reversals n ≡ option_map (λ r. r.number) (reversal_of h n)
 
-pub record AreLookupsOf (lookups : Lookups) (h : List Entry) : Type 0 where
-  pub ids : AreIdsOf lookups.ids h
-  pub reversals : AreReversalsOf lookups.reversals h
+pub record AreLookupsOf (rs : Reversals) (h : List Entry) : Type 0 where
+  pub ids : IsNewestFirst h
+  pub reversals : AreReversalsOf rs h

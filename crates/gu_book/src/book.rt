@@ -1,6 +1,6 @@
 //! The book: the house table, the history, and beside it what is kept of the live changes, the
 //! consents and the look-ups.
-ghost use Rattle.std.specs.Prelude.{true, vec_len, vec_capacity, ◌≡◌, ◌==◌, ◌≤◌, ◌<◌};
+ghost use Rattle.std.specs.Prelude.{true, ◌≡◌, ◌==◌, ◌≤◌, ◌<◌};
 ghost use Rattle.std.specs.Prelude.{ℕ, List, [], ◌∷◌, ◌++◌, length, map, option_map, slice_get};
 ghost use Rattle.std.specs.Prelude.{IsTrue, IfOk, IfErr, OnOk, OnErr, IsSomeAnd, if◌then◌else◌};
 ghost use Rattle.gu_base.specs.Limits.{most_entries};
@@ -18,12 +18,11 @@ ghost use Rattle.gu_base.specs.declared.command.Command.TheVariants.{Split};
 ghost use Rattle.gu_base.specs.declared.command.Part.{Part as PartData};
 ghost use Rattle.gu_base.specs.Numbers.{EntryPart};
 ghost use Rattle.gu_consent.specs.Given.{given};
-ghost use Rattle.gu_ids.specs.Chains.{IsReady};
 ghost use Rattle.gu_ids.specs.Hashing.{IsHashOf};
+ghost use Rattle.gu_ids.specs.History.{HasRoom};
 ghost use Rattle.gu_tree.specs.Shown.{shown, named_node};
 ghost use Rattle.gu_book.specs.Front.{may_lack};
 ghost use Rattle.gu_book.specs.Ids.{NoIdTwice};
-ghost use Rattle.gu_book.specs.Lookups.{AreIdsOf};
 ghost use Rattle.gu_book.specs.Kept.{IsAccepted, IsAcceptedBy, with_entry};
 ghost use Rattle.gu_book.specs.Found.{IsNamedIn, IsNothing, IsStandingIn};
 ghost use Rattle.gu_book.specs.Found.{IsUndoneBy, IsUndoneIn, LiesThere};
@@ -38,7 +37,7 @@ use crate::copies::{copy_of, parts_of};
 use crate::found::{Sought, seek};
 use crate::live::{Change, Live};
 use crate::live_state::{Addition, LiveState, Removal};
-use crate::lookups::Lookups;
+use crate::lookups::Reversals;
 use crate::rules::basis::Basis;
 use crate::rules::{calls, terms};
 use crate::{grove, visits};
@@ -48,7 +47,7 @@ use gu_base::{
 };
 use gu_consent::Consents;
 use gu_depend::first_standing;
-use gu_ids::{HashKey, IdHash, Ids};
+use gu_ids::{HashKey, History, IdHash};
 use gu_parties::House;
 use gu_positions::Key;
 use gu_tree::Row;
@@ -59,10 +58,10 @@ use std::marker::Model;
 #[derive(Drop)]
 pub struct Book {
     house: House,
-    entries: Vec<Entry>,
+    entries: History,
     state: LiveState,
     consents: Consents,
-    lookups: Lookups,
+    reversals: Reversals,
     visits: u64,
     parts: u64,
 }
@@ -76,7 +75,7 @@ impl Model for Book {
 
     ghost view = { λ b. record { house = b.house; history = b.entries.items; visits = b.visits } };
 
-    ghost invariant = { λ b. IsBook b.house b.entries.items b.consents b.lookups b.state
+    ghost invariant = { λ b. IsBook b.house b.entries.items b.consents b.reversals b.state
         × ArePartsOf b.entries.items b.parts };
 }
 
@@ -87,10 +86,10 @@ impl Book {
     {
         Book {
             house,
-            entries: Vec::new(alloc),
+            entries: History::new(alloc),
             state: LiveState::new(alloc),
             consents: Consents::new(alloc),
-            lookups: Lookups::new(alloc),
+            reversals: Reversals::new(alloc),
             visits: 0,
             parts: 0,
         }
@@ -128,7 +127,7 @@ impl Book {
     pub fn rekey(&mut self, key: HashKey)
         ensures { self.new ≡ self.old }
     {
-        self.lookups.ids.rekey(&self.entries, key);
+        self.entries.rekey(key);
     }
 
     /// The house table, without the book.
@@ -186,7 +185,7 @@ impl Book {
     pub fn live(&self, alloc: Global) -> Result<Vec<Number>, Memory>
         ensures { IfOk result (λ v. v.items ≡ map (λ r. r.number) (live self.now.history)) }
     {
-        Live::of(self.entries.as_slice(), &self.lookups.reversals).numbers(alloc)
+        Live::of(self.entries.as_slice(), &self.reversals).numbers(alloc)
     }
 
     /// Answers a call, and keeps it where it is accepted.
@@ -227,7 +226,7 @@ impl Book {
     {
         let mut sought = Sought::nothing();
         self.seek(command, &mut sought);
-        let hash = self.lookups.ids.hash_of(by, id);
+        let hash = self.entries.hash_of(by, id);
         let answer = self.answer(by, id, hash, command, &sought);
         self.note(sought.nodes);
         match answer {
@@ -289,10 +288,11 @@ impl Book {
         ensures seen { (by : List ℕ) → AreSeen (live self.now.history) by command.now
             sought.new.nodes }
     {
+        let entries = self.entries.as_slice();
         seek(
             &self.house,
-            &self.entries,
-            &self.lookups.reversals,
+            entries,
+            &self.reversals,
             &self.state,
             command,
             sought,
@@ -341,7 +341,6 @@ impl Book {
             undo: &sought.undo,
             standing: sought.standing,
             terms: &self.state.terms,
-            lookups: &self.lookups,
             consents: &self.consents,
         };
         calls::answer(&at, by, id, hash, command)
@@ -392,15 +391,15 @@ impl Book {
         ensures unchanged { OnErr result (self.new ≡ self.old) }
     {
         let parts = parts_of(alloc, made.command)?;
-        make_room(&mut self.entries, &mut self.lookups.ids)?;
+        self.entries.ready()?;
         let addition = Addition {
             house: &self.house,
-            changes: Live::of(self.entries.as_slice(), &self.lookups.reversals),
+            changes: Live::of(self.entries.as_slice(), &self.reversals),
             made,
             sought,
         };
         self.state.add(alloc, &addition)?;
-        push_change(&mut self.entries, &mut self.lookups.ids, made, hash, parts);
+        push_change(&mut self.entries, made, hash, parts);
         self.parts += visits::parts_in(made.command);
         Ok(())
     }
@@ -420,14 +419,14 @@ impl Book {
         ensures kept { OnOk result (self.new ≡ with_entry self.old made.now) }
         ensures unchanged { OnErr result (self.new ≡ self.old) }
     {
-        make_room(&mut self.entries, &mut self.lookups.ids)?;
+        self.entries.ready()?;
         let kept = match made.command {
             Command::Initiate { entry } => Command::Initiate { entry: *entry },
             Command::Decline { entry } => Command::Decline { entry: *entry },
             _ => unreachable!(),
         };
         consent(&mut self.consents, alloc, made)?;
-        push(&mut self.entries, &mut self.lookups.ids, made, hash, kept);
+        push(&mut self.entries, made, hash, kept);
         Ok(())
     }
 
@@ -449,20 +448,21 @@ impl Book {
         ensures kept { OnOk result (self.new ≡ with_entry self.old made.now) }
         ensures unchanged { OnErr result (self.new ≡ self.old) }
     {
-        make_room(&mut self.entries, &mut self.lookups.ids)?;
-        self.lookups.reversals.ready(change)?;
+        self.entries.ready()?;
+        self.reversals.ready(change)?;
+        let entries = self.entries.as_slice();
         let removal = Removal {
             house: &self.house,
-            changes: Live::of(self.entries.as_slice(), &self.lookups.reversals),
+            changes: Live::of(entries, &self.reversals),
             number: change,
-            entry: &self.entries[change.get() as usize - 1],
+            entry: &entries[change.get() as usize - 1],
             sought,
         };
         self.state.remove(&removal)?;
-        self.lookups.reversals.put(change, made.number);
+        self.reversals.put(change, made.number);
         self.consents.clear(change);
         let kept = Command::Reverse { entry: change };
-        push(&mut self.entries, &mut self.lookups.ids, made, hash, kept);
+        push(&mut self.entries, made, hash, kept);
         Ok(())
     }
 
@@ -542,109 +542,39 @@ impl Book {
     }
 }
 
-/// Makes room for one entry more, and for its id. There mostly is some for the entry, so that
-/// growth stands apart from the code that runs each time.
+/// Puts the entry of an accepted call at the end of the history; there has to be room for it.
 #[inline(always)]
-#[tactic(auto, using(crate::proofs::LookedUp::ids_few))]
-fn make_room(entries: &mut Vec<Entry>, ids: &mut Ids) -> Result<(), Memory>
-    requires ids { AreIdsOf ids.old entries.old.items }
-    requires few { length entries.old.items ≤ most_entries }
-    ensures items { entries.new.items ≡ entries.old.items }
-    ensures ids { AreIdsOf ids.new entries.old.items }
-    ensures room { OnOk result (vec_len entries.new < vec_capacity entries.new) }
-    ensures ready { OnOk result (IsReady ids.new) }
-{
-    if entries.len() >= entries.capacity() {
-        grow(entries)?;
-    }
-    ids.ready()
-}
-
-/// Makes room for one entry more where there is none.
-#[cold]
-#[inline(never)]
-fn grow(entries: &mut Vec<Entry>) -> Result<(), Memory>
-    ensures items { entries.new.items ≡ entries.old.items }
-    ensures room { OnOk result (vec_len entries.new < vec_capacity entries.new) }
-{
-    entries.reserve(1)?;
-    Ok(())
-}
-
-/// Puts the entry of an accepted call at the end of the history, and its id; there has to be room
-/// for both.
-#[inline(always)]
-fn push(entries: &mut Vec<Entry>, ids: &mut Ids, made: &Change<'_>, hash: IdHash, command: Command)
-    requires room { vec_len entries.old < vec_capacity entries.old }
-    requires ready { IsReady ids.old }
-    requires ids { AreIdsOf ids.old entries.old.items }
+fn push(entries: &mut History, made: &Change<'_>, hash: IdHash, command: Command)
+    requires ready { HasRoom entries.old }
     requires same { command ≡ made.now.command.now }
     requires hashed { IsHashOf hash made.now.firm.now made.now.id.now }
     requires accepted { IsAccepted entries.old.items (entry_of_change made.now) made.now.number }
-    ensures items { entries.new.items ≡ entries.old.items ++ entry_of_change made.now ∷ [] }
-    ensures ids { AreIdsOf ids.new (entries.old.items ++ entry_of_change made.now ∷ []) }
+    ensures { entries.new.items ≡ entries.old.items ++ entry_of_change made.now ∷ [] }
 {
-    ids.add(hash, made.firm, made.id);
-    put_last(entries, made, command);
+    entries.push(hash, made.firm, made.id, made.status, command);
 }
 
-/// The same of an accepted change. A Split gets these parts, which have to be equal to its own.
+/// The same of an accepted change. A Split gets these parts, which have to be equal to its own. A
+/// Trade and a Split, of which most books are, have code of their own, which copies no more than
+/// they have.
 #[inline(always)]
-fn push_change(
-    entries: &mut Vec<Entry>,
-    ids: &mut Ids,
-    made: &Change<'_>,
-    hash: IdHash,
-    parts: Parts,
-)
+fn push_change(entries: &mut History, made: &Change<'_>, hash: IdHash, parts: Parts)
     requires change { is_change made.now.command.now ≡ true }
     requires parts { (n : EntryPart) (its : List PartData) → made.now.command.now ≡ Split n its
         → parts ≡ its }
-    requires room { vec_len entries.old < vec_capacity entries.old }
-    requires ready { IsReady ids.old }
-    requires ids { AreIdsOf ids.old entries.old.items }
+    requires ready { HasRoom entries.old }
     requires hashed { IsHashOf hash made.now.firm.now made.now.id.now }
     requires accepted { IsAccepted entries.old.items (entry_of_change made.now) made.now.number }
-    ensures items { entries.new.items ≡ entries.old.items ++ entry_of_change made.now ∷ [] }
-    ensures ids { AreIdsOf ids.new (entries.old.items ++ entry_of_change made.now ∷ []) }
-{
-    ids.add(hash, made.firm, made.id);
-    put_change(entries, made, parts);
-}
-
-/// Puts the entry of a change at the end of the history. A Trade and a Split, of which most books
-/// are, have code of their own, which copies no more than they have.
-#[inline(always)]
-fn put_change(entries: &mut Vec<Entry>, made: &Change<'_>, parts: Parts)
-    requires change { is_change made.now.command.now ≡ true }
-    requires parts { (n : EntryPart) (its : List PartData) → made.now.command.now ≡ Split n its
-        → parts ≡ its }
-    requires room { vec_len entries.old < vec_capacity entries.old }
     ensures { entries.new.items ≡ entries.old.items ++ entry_of_change made.now ∷ [] }
 {
     match made.command {
-        Command::Trade { .. } => put_last(entries, made, copy_of(made.command)),
+        Command::Trade { .. } => push(entries, made, hash, copy_of(made.command)),
         Command::Split { node, .. } => {
             let kept = Command::Split { node: *node, parts };
-            put_last(entries, made, kept);
+            push(entries, made, hash, kept);
         }
-        _ => put_last(entries, made, copy_of(made.command)),
+        _ => push(entries, made, hash, copy_of(made.command)),
     }
-}
-
-/// Puts an entry with this command at the end of the history, put together where it then lies.
-#[inline(always)]
-fn put_last(entries: &mut Vec<Entry>, made: &Change<'_>, command: Command)
-    requires room { vec_len entries.old < vec_capacity entries.old }
-    requires same { command ≡ made.now.command.now }
-    ensures { entries.new.items ≡ entries.old.items ++ entry_of_change made.now ∷ [] }
-{
-    entries.push_reserved(Entry {
-        firm: *made.firm,
-        id: *made.id,
-        status: made.status,
-        command,
-    });
 }
 
 /// Adds the consent that an accepted Initiate gives, or clears those that a Decline takes back.

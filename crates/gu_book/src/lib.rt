@@ -19,10 +19,10 @@
 //!   the trees, positions, fees and terms are those of the live changes, and that the consents are
 //!   those that the history left.
 //! - `laws` has what follows for every book, first the headline in five laws.
-//! - `lookups` finds the entry of an id and the Reverse of an entry without going over the history,
-//!   `live` a live change by its number, `found` what the trees say of what a command names, `undo`
-//!   what follows of what kind of change it names. `live_state` has what is kept of the live
-//!   changes, and adds and removes one.
+//! - `lookups` finds the Reverse of an entry without going over the history, `live` a live change
+//!   by its number, `found` what the trees say of what a command names, `undo` what follows of what
+//!   kind of change it names. `live_state` has what is kept of the live changes, and adds and
+//!   removes one.
 //! - `rules` has each answer; what stands on a change it is told (gu_depend reads that off the
 //!   trees). `grove` has what a change and its Reverse do to the trees; no public contract speaks
 //!   of them.

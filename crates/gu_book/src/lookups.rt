@@ -1,32 +1,9 @@
-//! Where in the history the entry of a firm's id stands, and the Reverse of an entry: found without
-//! going over the history.
-ghost use Rattle.std.specs.Prelude.{◌≡◌, ◌==◌, [], ℕ, Some, None, if◌then◌else◌, OnOk};
-ghost use Rattle.gu_book.specs.Lookups.{reversal_in, AreLookupsOf, HasRoomAt};
+//! The Reverse of an entry, found without going over the history.
+ghost use Rattle.std.specs.Prelude.{◌≡◌, ◌==◌, ℕ, Some, None, if◌then◌else◌, OnOk};
+ghost use Rattle.gu_book.specs.Lookups.{reversal_in, HasRoomAt};
 
 use gu_base::{Memory, Number};
-use gu_ids::Ids;
 use std::alloc::Global;
-
-/// What is found of a history without going over it.
-#[derive(Drop)]
-pub(crate) struct Lookups {
-    /// The entries, by firm and id.
-    pub(crate) ids: Ids,
-    /// The Reverses, by the entries that they name.
-    pub(crate) reversals: Reversals,
-}
-
-impl Lookups {
-    /// That of no history.
-    pub(crate) fn new(alloc: Global) -> Lookups
-        ensures { AreLookupsOf result [] }
-    {
-        Lookups {
-            ids: Ids::new(alloc),
-            reversals: Reversals::new(alloc),
-        }
-    }
-}
 
 /// The number of the Reverse of each entry of a history that has one. It lies at the entry's own
 /// place, so a look-up is one look, however many there are; the list is no longer than the last of

@@ -20,7 +20,7 @@ use Rattle.gu_command.specs.Lines.{program, Makes, is_plain, command_in, word_fo
 use Rattle.gu_command.specs.Lines.{port_in, workers_in, connections_in, told_in, trade_meant, port_meant}
 use Rattle.gu_command.specs.Lines.{workers_meant}
 use Rattle.gu_command.specs.Lines.{connections_meant, IsLine, IsLineOf, AsksForBatch, AsksForTrace, AsksToServe}
-use Rattle.gu_command.specs.Lines.{AsksToKeep}
+use Rattle.gu_command.specs.Lines.{AsksToKeep, AsksToVerify, AsksToBackUp, totals_in, copy_in}
 use Rattle.gu_command.specs.Options.{flag_meant, limit_meant, limit_or, usual_meant}
 use Rattle.gu_command.specs.Options.{AreLimitsOf, AreOptionsOf, AreMeant, no_options}
 use Rattle.gu_command.specs.Naming.{name_meant, asking_meant, no_book, IsBookOf}
@@ -32,7 +32,7 @@ use Rattle.gu_limits.specs.declared.limits.Limits.{Limits}
 use Rattle.gu_command.specs.declared.naming.NamedBook.{NamedBook}
 use Rattle.gu_command.specs.declared.options.KeepOptions.{KeepOptions}
 use Rattle.gu_command.specs.declared.line.Line.{Line}
-use Rattle.gu_command.specs.declared.line.Line.TheVariants.{Batch, Trace, Serve, Keep}
+use Rattle.gu_command.specs.declared.line.Line.TheVariants.{Batch, Trace, Serve, Keep, Verify, Backup}
 
 -- the program is simple, so its lines are computed
 pub program_simple : is_simple program ≡ true
@@ -60,6 +60,14 @@ serve_line path word = codes "serve" ∷ path ∷ codes "--port" ∷ word ∷ []
 -- the line `keep HOUSE JOURNAL --port PORT`
 abbrev pub keep_line : Text → Text → Text → List Text
 keep_line path file word = codes "keep" ∷ path ∷ file ∷ codes "--port" ∷ word ∷ []
+
+-- the line `verify HOUSE JOURNAL`
+abbrev pub verify_line : Text → Text → List Text
+verify_line path file = codes "verify" ∷ path ∷ file ∷ []
+
+-- the line `backup JOURNAL TO`
+abbrev pub backup_line : Text → Text → List Text
+backup_line file copy = codes "backup" ∷ file ∷ copy ∷ []
 
 -- ---- the commands
 
@@ -345,6 +353,77 @@ keep_taken path file word h f k =
     let path_is = read_plain path h in let file_is = read_plain file f in let word_is = read_plain word k in
     rw (path_is.0, path_is.1, path_is.0, file_is.0, file_is.1, file_is.0, word_is.0, word_is.1, word_is.0) refl
 
+-- ---- verify
+
+abbrev verify_ids : List Text
+verify_ids = codes "HOUSE" ∷ codes "JOURNAL" ∷ codes "TOTALS" ∷ codes "N" ∷ []
+
+verify_given : (path file : Text) → is_plain path ≡ true → is_plain file ≡ true
+    → given_for verify_ids (subcommand_of program (verify_line path file))
+    ≡ Some (codes "verify", Some path ∷ Some file ∷ Some (codes "false") ∷ None ∷ [])
+unfolding clap_on_literals
+verify_given path file h f =
+    let path_is = read_plain path h in let file_is = read_plain file f in
+    rw (path_is.0, path_is.1, path_is.0, file_is.0, file_is.1, file_is.0) refl
+
+pub verify_met : (path file : Text) → is_plain path ≡ true → is_plain file ≡ true
+    → (command_in (verify_line path file) ≡ Some (codes "verify")) × (house_in (verify_line path file) ≡ Some path)
+    × (journal_in (verify_line path file) ≡ Some file)
+    × (totals_in (verify_line path file) ≡ Some (codes "false")) × (trade_in (verify_line path file) ≡ None)
+verify_met path file h f =
+    let e = verify_given path file h f in
+    let trades = codes "N" ∷ [] in
+    let totals = codes "TOTALS" ∷ trades in
+    let journals = codes "JOURNAL" ∷ totals in
+    let journal = rest_given (codes "HOUSE") journals _ _ _ _ e in
+    let flag = rest_given (codes "JOURNAL") totals _ _ _ _ journal in
+    let trade = rest_given (codes "TOTALS") trades _ _ _ _ flag in (
+      command_given verify_ids _ _ _ e,
+      first_given (codes "HOUSE") journals _ _ _ _ e,
+      first_given (codes "JOURNAL") totals _ _ _ _ journal,
+      first_given (codes "TOTALS") trades _ _ _ _ flag,
+      first_given (codes "N") [] _ _ _ _ trade,
+    )
+
+pub verify_taken : (path file : Text) → is_plain path ≡ true → is_plain file ≡ true
+    → takes program (verify_line path file) ≡ true
+unfolding clap_on_literals
+verify_taken path file h f =
+    let path_is = read_plain path h in let file_is = read_plain file f in
+    rw (path_is.0, path_is.1, path_is.0, file_is.0, file_is.1, file_is.0) refl
+
+-- ---- backup
+
+abbrev backup_ids : List Text
+backup_ids = codes "JOURNAL" ∷ codes "TO" ∷ []
+
+backup_given : (file copy : Text) → is_plain file ≡ true → is_plain copy ≡ true
+    → given_for backup_ids (subcommand_of program (backup_line file copy))
+    ≡ Some (codes "backup", Some file ∷ Some copy ∷ [])
+unfolding clap_on_literals
+backup_given file copy f k =
+    let file_is = read_plain file f in let copy_is = read_plain copy k in
+    rw (file_is.0, file_is.1, file_is.0, copy_is.0, copy_is.1, copy_is.0) refl
+
+pub backup_met : (file copy : Text) → is_plain file ≡ true → is_plain copy ≡ true
+    → (command_in (backup_line file copy) ≡ Some (codes "backup")) × (journal_in (backup_line file copy) ≡ Some file)
+    × (copy_in (backup_line file copy) ≡ Some copy)
+backup_met file copy f k =
+    let e = backup_given file copy f k in
+    let copies = codes "TO" ∷ [] in
+    let to = rest_given (codes "JOURNAL") copies _ _ _ _ e in (
+      command_given backup_ids _ _ _ e,
+      first_given (codes "JOURNAL") copies _ _ _ _ e,
+      first_given (codes "TO") [] _ _ _ _ to,
+    )
+
+pub backup_taken : (file copy : Text) → is_plain file ≡ true → is_plain copy ≡ true
+    → takes program (backup_line file copy) ≡ true
+unfolding clap_on_literals
+backup_taken file copy f k =
+    let file_is = read_plain file f in let copy_is = read_plain copy k in
+    rw (file_is.0, file_is.1, file_is.0, copy_is.0, copy_is.1, copy_is.0) refl
+
 -- ---- what is found behind the command
 
 given_among : (id : Text) (met : Option (Text × List Row)) (rows : List Row) → Some rows ≡ option_map (λ p. p.1) met
@@ -480,6 +559,15 @@ line_found words command given told (Keep path journal port workers connections 
   ap connections_meant (sym (g (codes "COUNT"))) ∙ k.5,
   same_meaning (word_for words) given (told_in words) told options (λ id. sym (g id)) (sym t) k.6,
 )
+line_found words command given told (Verify path look) c g t k = (
+  c ∙ ap Some k.0,
+  sym (g (codes "HOUSE")) ∙ k.1,
+  sym (g (codes "JOURNAL")) ∙ k.2,
+  ap flag_meant (sym (g (codes "TOTALS"))) ∙ k.3,
+  ap trade_meant (sym (g (codes "N"))) ∙ k.4,
+)
+line_found words command given told (Backup journal to) c g t k =
+    (c ∙ ap Some k.0, sym (g (codes "JOURNAL")) ∙ k.1, sym (g (codes "TO")) ∙ k.2)
 
 -- ---- what a line asks for
 
@@ -517,6 +605,37 @@ keep_no_trace e = keep_apart (codes "trace") 116 refl (λ (bad : 116 ≡ 107). o
 keep_no_serve : codes "keep" ≡ codes "serve" → ⊥
 keep_no_serve e = keep_apart (codes "serve") 115 refl (λ (bad : 115 ≡ 107). omega (arith, bad)) e
 
+-- two commands with other first letters aren't the same
+firsts_apart : (a b : Text) → (slice_index a 0 ≡ slice_index b 0 → ⊥) → a ≡ b → ⊥
+firsts_apart a b other e = other (ap (λ (t : Text). slice_index t 0) e)
+
+verify_no_batch : codes "verify" ≡ codes "batch" → ⊥
+verify_no_batch e = firsts_apart _ _ (λ (bad : 118 ≡ 98). omega (arith, bad)) e
+
+verify_no_trace : codes "verify" ≡ codes "trace" → ⊥
+verify_no_trace e = firsts_apart _ _ (λ (bad : 118 ≡ 116). omega (arith, bad)) e
+
+verify_no_serve : codes "verify" ≡ codes "serve" → ⊥
+verify_no_serve e = firsts_apart _ _ (λ (bad : 118 ≡ 115). omega (arith, bad)) e
+
+verify_no_keep : codes "verify" ≡ codes "keep" → ⊥
+verify_no_keep e = firsts_apart _ _ (λ (bad : 118 ≡ 107). omega (arith, bad)) e
+
+verify_no_backup : codes "verify" ≡ codes "backup" → ⊥
+verify_no_backup e = firsts_apart _ _ (λ (bad : 118 ≡ 98). omega (arith, bad)) e
+
+backup_no_batch : codes "backup" ≡ codes "batch" → ⊥
+backup_no_batch e = let bad : 99 ≡ 116 = ap (λ (t : Text). slice_index t 2) e in omega (arith, bad)
+
+backup_no_trace : codes "backup" ≡ codes "trace" → ⊥
+backup_no_trace e = firsts_apart _ _ (λ (bad : 98 ≡ 116). omega (arith, bad)) e
+
+backup_no_serve : codes "backup" ≡ codes "serve" → ⊥
+backup_no_serve e = firsts_apart _ _ (λ (bad : 98 ≡ 115). omega (arith, bad)) e
+
+backup_no_keep : codes "backup" ≡ codes "keep" → ⊥
+backup_no_keep e = firsts_apart _ _ (λ (bad : 98 ≡ 107). omega (arith, bad)) e
+
 serve_no_trace : codes "serve" ≡ codes "trace" → ⊥
 serve_no_trace e = let bad : 115 ≡ 116 = ap (λ (t : Text). slice_index t 0) e in omega (arith, bad)
 
@@ -528,6 +647,8 @@ asks_batch command path given told (Trace file number) c h k = absurd (apart (sy
 asks_batch command path given told (Serve file port workers connections) c h k = absurd (serve_apart (sym k.0 ∙ c))
 asks_batch command path given told (Keep file journal port workers connections options) c h k =
     absurd (keep_no_batch (sym k.0 ∙ c))
+asks_batch command path given told (Verify file look) c h k = absurd (verify_no_batch (sym k.0 ∙ c))
+asks_batch command path given told (Backup journal to) c h k = absurd (backup_no_batch (sym k.0 ∙ c))
 
 pub asks_trace : (command path : Text) (given : Text → Option Text) (told : List Text) (trade : Option ℕ) (l : Line)
     → command ≡ codes "trace" → given (codes "HOUSE") ≡ Some path → trade_meant (given (codes "N")) ≡ Some trade
@@ -539,6 +660,9 @@ asks_trace command path given told trade (Serve file port workers connections) c
     absurd (serve_no_trace (sym k.0 ∙ c))
 asks_trace command path given told trade (Keep file journal port workers connections options) c h t k =
     absurd (keep_no_trace (sym k.0 ∙ c))
+asks_trace command path given told trade (Verify file look) c h t k =
+    absurd (verify_no_trace (sym k.0 ∙ c))
+asks_trace command path given told trade (Backup journal to) c h t k = absurd (backup_no_trace (sym k.0 ∙ c))
 
 pub asks_serve : (command path : Text) (given : Text → Option Text) (told : List Text) (port : ℕ) (l : Line)
     → command ≡ codes "serve"
@@ -554,6 +678,9 @@ asks_serve command path given told port (Serve file at workers connections) c h 
 )
 asks_serve command path given told port (Keep file journal at workers connections options) c h p w n k =
     absurd (keep_no_serve (sym k.0 ∙ c))
+asks_serve command path given told port (Verify file look) c h p w n k =
+    absurd (verify_no_serve (sym k.0 ∙ c))
+asks_serve command path given told port (Backup journal to) c h p w n k = absurd (backup_no_serve (sym k.0 ∙ c))
 
 -- no word was given where none is found
 none_found : {A : Type 0} (f : A → Text) (r : Option A) → option_map f r ≡ None → r ≡ None
@@ -626,6 +753,42 @@ asks_keep command path file given told port (Keep house journal at workers conne
   same_count _ _ (sym k.5 ∙ ap connections_meant n),
   no_options_given options given told t k.6 r,
 )
+asks_keep command path file given told port (Verify house look) c h j p w n t r k =
+    absurd (verify_no_keep (sym k.0 ∙ c))
+asks_keep command path file given told port (Backup journal to) c h j p w n t r k =
+    absurd (backup_no_keep (sym k.0 ∙ c))
+
+pub asks_verify : (command path file : Text) (given : Text → Option Text) (told : List Text) (l : Line)
+    → command ≡ codes "verify" → given (codes "HOUSE") ≡ Some path → given (codes "JOURNAL") ≡ Some file
+    → given (codes "TOTALS") ≡ Some (codes "false") → given (codes "N") ≡ None → IsLineOf command given told l
+    → AsksToVerify path file l
+asks_verify command path file given told (Verify house look) c h j t n k = (
+  same_in_some _ _ (sym k.1 ∙ h),
+  same_in_some _ _ (sym k.2 ∙ j),
+  sym k.3 ∙ ap flag_meant t,
+  same_number _ _ (sym k.4 ∙ ap trade_meant n),
+)
+asks_verify command path file given told (Batch house) c h j t n k = absurd (verify_no_batch (sym c ∙ k.0))
+asks_verify command path file given told (Trace house number) c h j t n k = absurd (verify_no_trace (sym c ∙ k.0))
+asks_verify command path file given told (Serve house at workers connections) c h j t n k =
+    absurd (verify_no_serve (sym c ∙ k.0))
+asks_verify command path file given told (Keep house journal at workers connections options) c h j t n k =
+    absurd (verify_no_keep (sym c ∙ k.0))
+asks_verify command path file given told (Backup journal to) c h j t n k = absurd (verify_no_backup (sym c ∙ k.0))
+
+pub asks_backup : (command file copy : Text) (given : Text → Option Text) (told : List Text) (l : Line)
+    → command ≡ codes "backup" → given (codes "JOURNAL") ≡ Some file → given (codes "TO") ≡ Some copy
+    → IsLineOf command given told l → AsksToBackUp file copy l
+asks_backup command file copy given told (Backup journal to) c j t k =
+    (same_in_some _ _ (sym k.1 ∙ j), same_in_some _ _ (sym k.2 ∙ t))
+asks_backup command file copy given told (Batch house) c j t k = absurd (backup_no_batch (sym c ∙ k.0))
+asks_backup command file copy given told (Trace house number) c j t k = absurd (backup_no_trace (sym c ∙ k.0))
+asks_backup command file copy given told (Serve house at workers connections) c j t k =
+    absurd (backup_no_serve (sym c ∙ k.0))
+asks_backup command file copy given told (Keep house journal at workers connections options) c j t k =
+    absurd (backup_no_keep (sym c ∙ k.0))
+asks_backup command file copy given told (Verify house look) c j t k =
+    absurd (verify_no_backup (sym k.0 ∙ c))
 
 -- ---- what comes of it
 
@@ -734,6 +897,43 @@ keep_read r words name path file word port given told e plain plain_file plain_w
     (ap (λ (o : Option Text). is_some (workers_meant o)) usual)
     (ap (λ (o : Option Text). is_some (connections_meant o)) endless)))
 
+pub verify_read : (r : Reading) (words : List Text) (name path file : Text) (given : Text → Option Text)
+    (told : List Text)
+    → words ≡ verify_line path file → is_plain path ≡ true → is_plain file ≡ true → command_in words ≡ Some name
+    → ((id : Text) → given id ≡ word_for words id) → IfOk r (IsLineOf name given told)
+    → (name ≡ codes "verify" → is_some (given (codes "HOUSE")) ≡ true → is_some (given (codes "JOURNAL")) ≡ true
+    → is_some (trade_meant (given (codes "N"))) ≡ true → IfErr r (λ e. e ≡ no_memory))
+    → MatchResult r (AsksToVerify path file) (λ e. e ≡ no_memory)
+verify_read r words name path file given told e plain plain_file named_so given_so read fails =
+    let met = verify_met path file plain plain_file in
+    let name_is : name ≡ codes "verify" = same_in_some _ _ (sym named_so ∙ ap command_in e ∙ met.0) in
+    let house_is : given (codes "HOUSE") ≡ Some path = given_so (codes "HOUSE") ∙ ap house_in e ∙ met.1 in
+    let journal_is : given (codes "JOURNAL") ≡ Some file = given_so (codes "JOURNAL") ∙ ap journal_in e ∙ met.2 in
+    let flag_is : given (codes "TOTALS") ≡ Some (codes "false") =
+    given_so (codes "TOTALS") ∙ ap totals_in e ∙ met.3 in
+    let none : given (codes "N") ≡ None = given_so (codes "N") ∙ ap trade_in e ∙ met.4 in
+    by_both r _ _
+    (IfOk-weaker r _ _
+    (λ l h. asks_verify name path file given told l name_is house_is journal_is flag_is none h) read)
+    (fails name_is (ap is_some house_is) (ap is_some journal_is)
+    (ap (λ (o : Option Text). is_some (trade_meant o)) none))
+
+pub backup_read : (r : Reading) (words : List Text) (name file copy : Text) (given : Text → Option Text)
+    (told : List Text)
+    → words ≡ backup_line file copy → is_plain file ≡ true → is_plain copy ≡ true → command_in words ≡ Some name
+    → ((id : Text) → given id ≡ word_for words id) → IfOk r (IsLineOf name given told)
+    → (name ≡ codes "backup" → is_some (given (codes "JOURNAL")) ≡ true → is_some (given (codes "TO")) ≡ true
+    → IfErr r (λ e. e ≡ no_memory))
+    → MatchResult r (AsksToBackUp file copy) (λ e. e ≡ no_memory)
+backup_read r words name file copy given told e plain plain_copy named_so given_so read fails =
+    let met = backup_met file copy plain plain_copy in
+    let name_is : name ≡ codes "backup" = same_in_some _ _ (sym named_so ∙ ap command_in e ∙ met.0) in
+    let journal_is : given (codes "JOURNAL") ≡ Some file = given_so (codes "JOURNAL") ∙ ap journal_in e ∙ met.1 in
+    let copy_is : given (codes "TO") ≡ Some copy = given_so (codes "TO") ∙ ap copy_in e ∙ met.2 in
+    by_both r _ _
+    (IfOk-weaker r _ _ (λ l h. asks_backup name file copy given told l name_is journal_is copy_is h) read)
+    (fails name_is (ap is_some journal_is) (ap is_some copy_is))
+
 -- a line that the parser finds in the words is told, unless memory runs out
 pub line_read : (r : Reading) (words : List Text) (name : Text) (given : Text → Option Text) (told : List Text)
     (l : Line) → IsLine words l → command_in words ≡ Some name → ((id : Text) → given id ≡ word_for words id)
@@ -747,20 +947,25 @@ pub line_read : (r : Reading) (words : List Text) (name : Text) (given : Text �
     → (name ≡ codes "keep" → is_some (given (codes "HOUSE")) ≡ true → is_some (given (codes "JOURNAL")) ≡ true
     → is_some (port_meant (given (codes "PORT"))) ≡ true → is_some (workers_meant (given (codes "WORKERS"))) ≡ true
     → is_some (connections_meant (given (codes "COUNT"))) ≡ true → AreMeant given told (IfErr r (λ e. e ≡ no_memory)))
+    → (name ≡ codes "verify" → is_some (given (codes "HOUSE")) ≡ true → is_some (given (codes "JOURNAL")) ≡ true
+    → is_some (trade_meant (given (codes "N"))) ≡ true → IfErr r (λ e. e ≡ no_memory))
+    → (name ≡ codes "backup" → is_some (given (codes "JOURNAL")) ≡ true → is_some (given (codes "TO")) ≡ true
+    → IfErr r (λ e. e ≡ no_memory))
     → IfErr r (λ e. e ≡ no_memory)
-line_read r words name given told (Batch path) found named_so given_so told_so batch trace serve keep =
+line_read r words name given told (Batch path) found named_so given_so told_so batch trace serve keep verify backup =
     batch (same_in_some _ _ (sym named_so ∙ found.0)) (ap is_some (given_so (codes "HOUSE") ∙ found.1))
-line_read r words name given told (Trace path number) found named_so given_so told_so batch trace serve keep =
+line_read r words name given told (Trace path number) found named_so given_so told_so
+    batch trace serve keep verify backup =
     trace (same_in_some _ _ (sym named_so ∙ found.0)) (ap is_some (given_so (codes "HOUSE") ∙ found.1))
     (ap is_some (ap trade_meant (given_so (codes "N")) ∙ found.2))
 line_read r words name given told (Serve path port workers connections) found named_so given_so told_so
-    batch trace serve keep =
+    batch trace serve keep verify backup =
     serve (same_in_some _ _ (sym named_so ∙ found.0)) (ap is_some (given_so (codes "HOUSE") ∙ found.1))
     (ap is_some (ap port_meant (given_so (codes "PORT")) ∙ found.2))
     (ap is_some (ap workers_meant (given_so (codes "WORKERS")) ∙ found.3))
     (ap is_some (ap connections_meant (given_so (codes "COUNT")) ∙ found.4))
 line_read r words name given told (Keep path journal port workers connections options) found named_so given_so told_so
-    batch trace serve keep =
+    batch trace serve keep verify backup =
     meant_so given told options _
     (same_meaning given (word_for words) told (told_in words) options given_so told_so found.6)
     (keep (same_in_some _ _ (sym named_so ∙ found.0)) (ap is_some (given_so (codes "HOUSE") ∙ found.1))
@@ -768,3 +973,11 @@ line_read r words name given told (Keep path journal port workers connections op
     (ap is_some (ap port_meant (given_so (codes "PORT")) ∙ found.3))
     (ap is_some (ap workers_meant (given_so (codes "WORKERS")) ∙ found.4))
     (ap is_some (ap connections_meant (given_so (codes "COUNT")) ∙ found.5)))
+line_read r words name given told (Verify path look) found named_so given_so told_so
+    batch trace serve keep verify backup =
+    verify (same_in_some _ _ (sym named_so ∙ found.0)) (ap is_some (given_so (codes "HOUSE") ∙ found.1))
+    (ap is_some (given_so (codes "JOURNAL") ∙ found.2)) (ap is_some (ap trade_meant (given_so (codes "N")) ∙ found.4))
+line_read r words name given told (Backup journal to) found named_so given_so told_so
+    batch trace serve keep verify backup =
+    backup (same_in_some _ _ (sym named_so ∙ found.0)) (ap is_some (given_so (codes "JOURNAL") ∙ found.1))
+    (ap is_some (given_so (codes "TO") ∙ found.2))

@@ -7,10 +7,11 @@ use Rattle.clap.specs.Words.{subcommand_of}
 use Rattle.clap.specs.Words.{takes, with_rule, with_subcommand}
 use Rattle.clap.specs.declared.builder.command.Command.{Command}
 use Rattle.clap.specs.declared.builder.command.Command.TheViews.{out-Command as fields_of}
-use Rattle.clap.specs.declared.builder.action.ArgAction.TheVariants.{Set}
+use Rattle.clap.specs.declared.builder.action.ArgAction.TheVariants.{Set, SetTrue}
 use Rattle.gu_desk.specs.Views.{is_worker_count, most_workers}
 use Rattle.gu_message.specs.Values.{entry_of}
 use Rattle.gu_command.specs.Faults.{no_memory}
+use Rattle.gu_command.specs.Flags.{flag_meant}
 use Rattle.gu_command.specs.Options.{optioned, AreOptionsOf, no_options}
 pub use Rattle.gu_command.specs.Limits.{up_to}
 use Rattle.gu_command.specs.Limits.{most_port, usual_workers, most_connections}
@@ -19,6 +20,7 @@ use Rattle.gu_command.specs.declared.fault.Fault.TheVariants.{Usage, Run}
 use Rattle.gu_batch.specs.declared.batch.RunError.TheVariants.{Memory}
 use Rattle.gu_command.specs.declared.line.Line.{Line}
 use Rattle.gu_command.specs.declared.line.Line.TheVariants.{Batch, Trace, Serve, Keep}
+use Rattle.gu_command.specs.declared.line.Line.TheVariants.{Verify, Backup}
 
 -- the argument HOUSE
 abbrev pub house_rule : Rule
@@ -71,6 +73,26 @@ abbrev pub keep : App
 keep = optioned (with_rule (with_rule (with_rule (with_rule (with_rule (new_app (codes "keep"))
     house_rule) journal_rule) port_rule) workers_rule) connections_rule)
 
+-- the argument `--totals`
+abbrev pub totals_rule : Rule
+totals_rule =
+    record (new_rule (codes "TOTALS")) { long = Some (codes "totals"); action = Some SetTrue }
+
+-- the command `verify HOUSE JOURNAL [--totals] [--trade N]`
+abbrev pub verify : App
+verify =
+    with_rule
+    (with_rule (with_rule (with_rule (new_app (codes "verify")) house_rule) journal_rule)
+    totals_rule) trade_rule
+
+-- the argument TO
+abbrev pub copy_rule : Rule
+copy_rule = record (new_rule (codes "TO")) { required = true; action = Some Set }
+
+-- the command `backup JOURNAL TO`
+abbrev pub backup : App
+backup = with_rule (with_rule (new_app (codes "backup")) journal_rule) copy_rule
+
 -- the program, as the parser sees it: its words begin with a command, and there is no command for
 -- help
 abbrev pub top : App
@@ -82,10 +104,10 @@ top = record (new_app (codes "allocd")) {
   };
 }
 
--- the program with its four commands
+-- the program with its six commands
 abbrev pub program : App
-program = with_subcommand (with_subcommand (with_subcommand (with_subcommand top batch.top)
-    trace.top) serve.top) keep.top
+program = with_subcommand (with_subcommand (with_subcommand (with_subcommand (with_subcommand
+    (with_subcommand top batch.top) trace.top) serve.top) keep.top) verify.top) backup.top
 
 -- the command was made, or there was no memory for it
 abbrev pub Makes : App → Result Command Fault → Type 0
@@ -112,6 +134,14 @@ house_in words = word_for words (codes "HOUSE")
 -- the journal that it finds
 abbrev pub journal_in : List Text → Option Text
 journal_in words = word_for words (codes "JOURNAL")
+
+-- whether it finds `--totals`
+abbrev pub totals_in : List Text → Option Text
+totals_in words = word_for words (codes "TOTALS")
+
+-- the copy that it finds
+abbrev pub copy_in : List Text → Option Text
+copy_in words = word_for words (codes "TO")
 
 -- what it finds behind `--trade`
 abbrev pub trade_in : List Text → Option Text
@@ -181,6 +211,14 @@ IsLineOf command given told (Keep path journal port workers connections options)
     × (workers_meant (given (codes "WORKERS")) ≡ Some workers)
     × (connections_meant (given (codes "COUNT")) ≡ Some connections)
     × AreOptionsOf given told options
+IsLineOf command given told (Verify path look) =
+    (command ≡ codes "verify") × (given (codes "HOUSE") ≡ Some path.bytes.items)
+    × (given (codes "JOURNAL") ≡ Some look.journal.bytes.items)
+    × (flag_meant (given (codes "TOTALS")) ≡ look.totals)
+    × (trade_meant (given (codes "N")) ≡ Some look.trade)
+IsLineOf command given told (Backup journal to) =
+    (command ≡ codes "backup") × (given (codes "JOURNAL") ≡ Some journal.bytes.items)
+    × (given (codes "TO") ≡ Some to.bytes.items)
 
 -- it is what the parser finds in the words
 abbrev pub IsLine : List Text → Line → Type 0
@@ -199,6 +237,14 @@ IsLine words (Keep path journal port workers connections options) =
     × (port_meant (port_in words) ≡ Some port) × (workers_meant (workers_in words) ≡ Some workers)
     × (connections_meant (connections_in words) ≡ Some connections)
     × AreOptionsOf (word_for words) (told_in words) options
+IsLine words (Verify path look) =
+    (command_in words ≡ Some (codes "verify"))
+    × (house_in words ≡ Some path.bytes.items) × (journal_in words ≡ Some look.journal.bytes.items)
+    × (flag_meant (totals_in words) ≡ look.totals)
+    × (trade_meant (trade_in words) ≡ Some look.trade)
+IsLine words (Backup journal to) =
+    (command_in words ≡ Some (codes "backup"))
+    × (journal_in words ≡ Some journal.bytes.items) × (copy_in words ≡ Some to.bytes.items)
 
 -- the words are one of the program's lines, with any of its options: the parser takes them, and
 -- this is the line that it finds
@@ -213,6 +259,8 @@ AsksForBatch path (Batch house) = house.bytes.items ≡ path
 AsksForBatch path (Trace house trade) = ⊥
 AsksForBatch path (Serve house port workers connections) = ⊥
 AsksForBatch path (Keep house journal port workers connections options) = ⊥
+AsksForBatch path (Verify house look) = ⊥
+AsksForBatch path (Backup journal to) = ⊥
 
 -- the line asks for the totals by the house file at the path, and for the trace of this trade, if
 -- one is named
@@ -221,6 +269,8 @@ AsksForTrace path asked (Trace house trade) = (house.bytes.items ≡ path) × (t
 AsksForTrace path asked (Batch house) = ⊥
 AsksForTrace path asked (Serve house port workers connections) = ⊥
 AsksForTrace path asked (Keep house journal port workers connections options) = ⊥
+AsksForTrace path asked (Verify house look) = ⊥
+AsksForTrace path asked (Backup journal to) = ⊥
 
 -- the line asks to serve by the house file at the path: on this port, by so many workers, so many
 -- connections
@@ -230,6 +280,8 @@ AsksToServe path p w n (Serve house port workers connections) =
 AsksToServe path p w n (Batch house) = ⊥
 AsksToServe path p w n (Trace house trade) = ⊥
 AsksToServe path p w n (Keep house journal port workers connections options) = ⊥
+AsksToServe path p w n (Verify house look) = ⊥
+AsksToServe path p w n (Backup journal to) = ⊥
 
 -- the line asks to keep a book in the journal at a path, with no options, and to serve it
 abbrev pub AsksToKeep : Text → Text → ℕ → ℕ → ℕ → Line → Type 0
@@ -239,6 +291,29 @@ AsksToKeep path file p w n (Keep house journal port workers connections options)
 AsksToKeep path file p w n (Batch house) = ⊥
 AsksToKeep path file p w n (Trace house trade) = ⊥
 AsksToKeep path file p w n (Serve house port workers connections) = ⊥
+AsksToKeep path file p w n (Verify house look) = ⊥
+AsksToKeep path file p w n (Backup journal to) = ⊥
+
+-- the line asks what a start would say of the journal at a path, and for nothing beside that
+abbrev pub AsksToVerify : Text → Text → Line → Type 0
+AsksToVerify path file (Verify house look) =
+    (house.bytes.items ≡ path) × (look.journal.bytes.items ≡ file) × (look.totals ≡ false)
+    × (look.trade ≡ None)
+AsksToVerify path file (Batch house) = ⊥
+AsksToVerify path file (Trace house trade) = ⊥
+AsksToVerify path file (Serve house port workers connections) = ⊥
+AsksToVerify path file (Keep house journal port workers connections options) = ⊥
+AsksToVerify path file (Backup journal to) = ⊥
+
+-- the line asks for a copy of the journal at a path, at another one
+abbrev pub AsksToBackUp : Text → Text → Line → Type 0
+AsksToBackUp file copy (Backup journal to) =
+    (journal.bytes.items ≡ file) × (to.bytes.items ≡ copy)
+AsksToBackUp file copy (Batch house) = ⊥
+AsksToBackUp file copy (Trace house trade) = ⊥
+AsksToBackUp file copy (Serve house port workers connections) = ⊥
+AsksToBackUp file copy (Keep house journal port workers connections options) = ⊥
+AsksToBackUp file copy (Verify house look) = ⊥
 
 -- a line that asks to serve does so by as many workers as a desk may have
 abbrev pub HasWorkers : Line → Type 0

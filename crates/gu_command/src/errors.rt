@@ -49,6 +49,9 @@ pub enum RecordError {
     /// The journal's path leads to another file or to none, or the file has become shorter.
     #[error("moved, or cut")]
     Gone,
+    /// The disk has no room for a group, so that nobody is let in.
+    #[error("no room for a group")]
+    NoRoom,
     /// The file can't be written or synced.
     #[error("cannot write: {0}")]
     Disk(io::Error),

@@ -4,6 +4,7 @@
 //! - A `Fault` says in one line why the program ended otherwise than well, and with which status.
 #![tactic(auto)]
 
+mod copies;
 mod errors;
 mod fault;
 mod line;
@@ -11,6 +12,7 @@ mod naming;
 mod options;
 mod order;
 
+pub use copies::Look;
 pub use errors::{KeepError, RecordError, ServeError, ServiceError};
 pub use fault::{Fault, fault_at};
 pub use line::{Line, MOST_WORKERS, command_line, unread_words};

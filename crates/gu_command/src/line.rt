@@ -7,11 +7,13 @@ ghost use Rattle.clap.specs.Words.{App, first_value, found_of, kind_of, new_app,
 ghost use Rattle.clap.specs.Words.{with_rule, with_subcommand};
 ghost use Rattle.gu_message.specs.Values.{entry_of};
 ghost use Rattle.gu_command.specs.Lines.{program, top, batch, trace, serve, keep, house_rule};
+ghost use Rattle.gu_command.specs.Lines.{trade_rule};
 ghost use Rattle.gu_command.specs.Lines.{journal_rule, port_rule, workers_rule, connections_rule};
 ghost use Rattle.gu_command.specs.Lines.{Makes, is_plain, trade_meant, up_to as number_up_to};
 ghost use Rattle.gu_command.specs.Lines.{port_meant, workers_meant, connections_meant};
 ghost use Rattle.gu_command.specs.Lines.{is_line_fault, IsLine, IsOneOfItsLines, IsLineOf};
 ghost use Rattle.gu_command.specs.Lines.{AsksForBatch, AsksForTrace, AsksToServe, AsksToKeep};
+ghost use Rattle.gu_command.specs.Lines.{AsksToVerify, AsksToBackUp};
 ghost use Rattle.gu_command.specs.Lines.{HasWorkers};
 ghost use Rattle.gu_command.specs.Options.{option_rule, AreMeant};
 ghost use Rattle.gu_command.specs.Places.{told_among};
@@ -20,6 +22,7 @@ ghost use Rattle.gu_command.specs.Faults.{no_memory};
 ghost use Rattle.std.specs.IoError.{error_kind};
 ghost use Rattle.std.specs.declared.io.ErrorKind.TheVariants as io_kind;
 
+use crate::copies::{Look, backup_command, backup_line, verify_command, verify_line};
 use crate::fault::Fault;
 use crate::options::{KeepOptions, options_of, with_options};
 use clap::error::ErrorKind;
@@ -62,6 +65,16 @@ pub enum Line {
         connections: u32,
         options: KeepOptions,
     },
+    /// `verify HOUSE JOURNAL [--totals] [--trade N]`: say what a start would say of a journal.
+    Verify {
+        house: String,
+        look: Look,
+    },
+    /// `backup JOURNAL TO`: copy the journal at the first path to the second one.
+    Backup {
+        journal: String,
+        to: String,
+    },
 }
 
 /// The program's commands, and the names by which `ArgMatches` gives their words.
@@ -73,11 +86,15 @@ const SERVE: &str = "serve";
 
 const KEEP: &str = "keep";
 
+pub(crate) const VERIFY: &str = "verify";
+
+pub(crate) const BACKUP: &str = "backup";
+
 const HOUSE: &str = "HOUSE";
 
-const JOURNAL: &str = "JOURNAL";
+pub(crate) const JOURNAL: &str = "JOURNAL";
 
-const TRADE: &str = "N";
+pub(crate) const TRADE: &str = "N";
 
 const PORT: &str = "PORT";
 
@@ -98,7 +115,10 @@ pub const MOST_WORKERS: u32 = 16;
 const USUAL_WORKERS: u32 = 4;
 
 /// The command with an argument more.
-fn with_argument<'a>(command: Command<'a>, argument: Arg<'a>) -> Result<Command<'a>, Fault>
+pub(crate) fn with_argument<'a>(
+    command: Command<'a>,
+    argument: Arg<'a>,
+) -> Result<Command<'a>, Fault>
     requires { argument.global ≡ false }
     ensures { (app : App) → Makes app (Ok command.entry)
         → Makes (with_rule app (rule_of argument.entry)) result }
@@ -120,19 +140,19 @@ fn house_argument<'a>(alloc: Global) -> Arg<'a>
         .action(ArgAction::Set)
 }
 
-/// The argument for the journal.
-fn journal_argument<'a>(alloc: Global) -> Arg<'a>
+/// The argument for the journal, and what is said of it.
+pub(crate) fn journal_argument<'a>(alloc: Global, help: &'static str) -> Arg<'a>
     ensures rule { rule_of result ≡ journal_rule }
     ensures local { result.global ≡ false }
 {
     Arg::new(alloc, JOURNAL)
-        .help("The journal of the book; it is made where it isn't there")
+        .help(help)
         .required(true)
         .action(ArgAction::Set)
 }
 
 /// A command of this name, whose first argument is the house file.
-fn house_command<'a>(
+pub(crate) fn house_command<'a>(
     alloc: Global,
     name: &'static str,
     about: &'static str,
@@ -195,6 +215,20 @@ pub(crate) fn with_option<'a>(
     }
 }
 
+/// The option `--trade`.
+pub(crate) fn trade_option<'a>(alloc: Global) -> Arg<'a>
+    ensures rule { rule_of result ≡ trade_rule }
+    ensures local { result.global ≡ false }
+{
+    option(
+        alloc,
+        TRADE,
+        "trade",
+        "The number of the trade whose tree is written before the totals",
+        false,
+    )
+}
+
 /// The command `trace`.
 fn trace_command<'a>(alloc: Global) -> Result<Command<'a>, Fault>
     ensures { Makes trace result }
@@ -204,14 +238,7 @@ fn trace_command<'a>(alloc: Global) -> Result<Command<'a>, Fault>
         TRACE,
         "Reads FIX on standard input, and writes a trade's tree and the totals",
     );
-    let trade = option(
-        alloc,
-        TRADE,
-        "trade",
-        "The number of the trade whose tree is written before the totals",
-        false,
-    );
-    with_option(command, trade)
+    with_option(command, trade_option(alloc))
 }
 
 /// The option `--port` of the command `serve`.
@@ -280,7 +307,11 @@ fn keep_command<'a>(alloc: Global) -> Result<Command<'a>, Fault>
         KEEP,
         "Serves firms, and tells nothing before the disk has it; `keep --version` says the version",
     );
-    let command = with_option(command, journal_argument(alloc));
+    let journal = journal_argument(
+        alloc,
+        "The journal of the book; it is made where it isn't there",
+    );
+    let command = with_option(command, journal);
     let command = with_option(command, port_option(alloc));
     let command = with_option(command, workers_option(alloc));
     let command = with_option(command, connections_option(alloc));
@@ -344,7 +375,9 @@ fn program_command<'a>(alloc: Global) -> Result<Command<'a>, Fault>
     let command = with_command(bare_command(alloc), batch_command(alloc));
     let command = with_command(command, trace_command(alloc));
     let command = with_command(command, serve_command(alloc));
-    with_command(command, keep_command(alloc))
+    let command = with_command(command, keep_command(alloc));
+    let command = with_command(command, verify_command(alloc));
+    with_command(command, backup_command(alloc))
 }
 
 /// What the parser says to a command line, without its last line end. Where it found no memory it
@@ -389,7 +422,7 @@ pub fn unread_words(alloc: Global, error: &io::Error) -> Fault
 }
 
 /// A word of the command line in memory of its own.
-fn copied(alloc: Global, word: Option<&str>) -> Result<String, Fault>
+pub(crate) fn copied(alloc: Global, word: Option<&str>) -> Result<String, Fault>
     ensures ok { IfOk result (λ s. option_map (λ w. w.now) word.entry ≡ Some s.bytes.items) }
     ensures err { IfErr result (λ e. is_some word.entry ≡ true → e ≡ no_memory) }
     ensures fault { IfErr result (λ e. IsTrue (is_line_fault e)) }
@@ -413,7 +446,7 @@ pub(crate) fn number_fault(alloc: Global, word: &str, option: &str, least: u32, 
 }
 
 /// Which trade the word behind `--trade` means, and none where there is no such word.
-fn trade_of(alloc: Global, word: Option<&str>) -> Result<Option<u32>, Fault>
+pub(crate) fn trade_of(alloc: Global, word: Option<&str>) -> Result<Option<u32>, Fault>
     ensures ok { IfOk result (λ t. trade_meant (option_map (λ w. w.now) word.entry) ≡ Some t) }
     ensures err { IfErr result (λ _. trade_meant (option_map (λ w. w.now) word.entry) ≡ None) }
     ensures fault { IfErr result (λ e. IsTrue (is_line_fault e)) }
@@ -568,8 +601,20 @@ fn line_of(alloc: Global, name: &str, given: &ArgMatches<'_>) -> Result<Line, Fa
         → is_some (connections_meant (first_value (found_of given.now) (codes "COUNT"))) ≡ true
         → AreMeant (first_value (found_of given.now)) (told_among (found_of given.now))
         (IfErr result (λ e. e ≡ no_memory)) }
+    ensures verify { name.now ≡ codes "verify"
+        → is_some (first_value (found_of given.now) (codes "HOUSE")) ≡ true
+        → is_some (first_value (found_of given.now) (codes "JOURNAL")) ≡ true
+        → is_some (trade_meant (first_value (found_of given.now) (codes "N"))) ≡ true
+        → IfErr result (λ e. e ≡ no_memory) }
+    ensures backup { name.now ≡ codes "backup"
+        → is_some (first_value (found_of given.now) (codes "JOURNAL")) ≡ true
+        → is_some (first_value (found_of given.now) (codes "TO")) ≡ true
+        → IfErr result (λ e. e ≡ no_memory) }
     ensures fault { IfErr result (λ e. IsTrue (is_line_fault e)) }
 {
+    if name == BACKUP {
+        return backup_line(alloc, given);
+    }
     let house = copied(alloc, given.get_str(HOUSE))?;
     if name == BATCH {
         return Ok(Line::Batch { house });
@@ -583,6 +628,9 @@ fn line_of(alloc: Global, name: &str, given: &ArgMatches<'_>) -> Result<Line, Fa
     }
     if name == KEEP {
         return keep_line(alloc, house, given);
+    }
+    if name == VERIFY {
+        return verify_line(alloc, house, given);
     }
     Err(Fault::Usage(String::new(alloc)))
 }
@@ -615,6 +663,14 @@ pub fn command_line(alloc: Global, words: &[String]) -> Result<Line, Fault>
         → is_plain path ≡ true → is_plain file ≡ true → is_plain word ≡ true
         → port_meant (Some word) ≡ Some port
         → MatchResult result (AsksToKeep path file port 4 0) (λ e. e ≡ no_memory) }
+    ensures verify { (path file : List ℕ)
+        → map (λ w. w.bytes.items) words.now ≡ codes "verify" ∷ path ∷ file ∷ []
+        → is_plain path ≡ true → is_plain file ≡ true
+        → MatchResult result (AsksToVerify path file) (λ e. e ≡ no_memory) }
+    ensures backup { (file copy : List ℕ)
+        → map (λ w. w.bytes.items) words.now ≡ codes "backup" ∷ file ∷ copy ∷ []
+        → is_plain file ≡ true → is_plain copy ≡ true
+        → MatchResult result (AsksToBackUp file copy) (λ e. e ≡ no_memory) }
     ensures taken { IsOneOfItsLines (map (λ w. w.bytes.items) words.now)
         → IfErr result (λ e. e ≡ no_memory) }
     ensures fault { IfErr result (λ e. IsTrue (is_line_fault e)) }

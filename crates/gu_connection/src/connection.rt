@@ -3,12 +3,13 @@
 ghost use Rattle.std.specs.Prelude.{◌≡◌, ◌⊎◌, ◌≤◌, ◌≤ℤ◌, pos, ◌+◌, ◌++◌, ℕ, List, [], length};
 ghost use Rattle.std.specs.Prelude.{true, false, take, not, ◌&&◌};
 ghost use Rattle.std.specs.Io.KnownBytes.{Appends};
-ghost use Rattle.std.specs.Prelude.{nat_le, None, option_map, IfOk, OnOk, OnErr, IsErr};
+ghost use Rattle.std.specs.Prelude.{nat_le, None, option_map, IfOk, OnOk, OnErr, IsErr, IfSome};
 ghost use Rattle.std.specs.List.{All};
 ghost use Rattle.gu_base.specs.Limits.{most_parts};
 ghost use Rattle.gu_codec.specs.Limits.{longest_frame};
 ghost use Rattle.gu_session.specs.Steps.{opening};
 ghost use Rattle.gu_session.specs.Keeping.{bytes_of};
+ghost use Rattle.gu_session.specs.Noting.{gap_of};
 ghost use Rattle.gu_session.specs.Text.{ShowFewParts};
 ghost use Rattle.gu_session.specs.declared.event.Event.TheVariants.{Reply};
 ghost use Rattle.gu_base.specs.House.{House as HouseTable};
@@ -32,7 +33,7 @@ use gu_codec::{Feed, Fields, Frame, Header, append_field, tags, write_frame};
 use gu_command::NamedBook;
 use gu_message::{SendingTime, msg_types};
 use gu_parties::House;
-use gu_session::{Actions, Event, LAST_NUMBER, Session};
+use gu_session::{Actions, Event, Gap, LAST_NUMBER, Noted, Session};
 use gu_trace::{MOST_REPORTS, nothing_is_passed_over};
 use jiff::Timestamp;
 use std::alloc::Global;
@@ -63,7 +64,7 @@ pub(crate) enum Brought {
     Logon(Actions, Beginning),
 }
 
-/// Whether a write that has begun then has waited for the peer.
+/// Whether a write that is over now, and began right behind this, has waited for the peer.
 fn has_waited<R: Clock>(rt: &R, begun: Option<Instant>) -> bool {
     match begun {
         Some(begun) => match begun.elapsed(rt) {
@@ -74,24 +75,50 @@ fn has_waited<R: Clock>(rt: &R, begun: Option<Instant>) -> bool {
     }
 }
 
-/// One step of a session, at its clock's moment. A clock that can't be told closes the connection,
-/// as want of memory does.
-fn step<R: Clock>(
-    rt: &R,
-    clock: &mut SteadyClock,
+/// The moment for an event that is no message. A reply comes shortly behind a step of its turn.
+#[inline(always)]
+fn moment_for<R: Clock>(rt: &R, clock: &mut SteadyClock, event: &Event<'_>) -> Option<Timestamp>
+    ensures { IfSome result (λ t. pos 0 ≤ℤ t.nanosecond) }
+{
+    match event {
+        Event::Reply(..) => clock.later(rt),
+        _ => clock.now(rt),
+    }
+}
+
+/// One step of a session, at this moment, and what is noted of it. A moment that can't be told
+/// closes the connection, as want of memory does.
+#[inline(always)]
+fn step(
     session: &mut Session<'_>,
+    noted: &mut Noted,
     event: Event<'_>,
+    moment: Option<Timestamp>,
 ) -> Result<Actions, Closed>
-    requires { ShowFewParts event }
+    requires event { ShowFewParts event }
+    requires moment { IfSome moment (λ t. pos 0 ≤ℤ t.nanosecond) }
     ensures ok { IfOk result (λ a. StepsNow event.entry session.old session.new a) }
     ensures err { OnErr result (session.new ≡ session.old) }
 {
-    let Some(moment) = clock.now(rt) else {
+    let Some(moment) = moment else {
         return Err(Closed);
     };
-    match session.step(event, moment) {
-        Ok(actions) => Ok(actions),
+    match session.step_noted(event, moment) {
+        Ok((actions, what)) => {
+            *noted = what;
+            Ok(actions)
+        }
         Err(_) => Err(Closed),
+    }
+}
+
+/// Ends a session at this moment, if that can be told.
+#[inline(never)]
+fn end_session(session: &mut Session<'_>, moment: Option<Timestamp>)
+    requires { IfSome moment (λ t. pos 0 ≤ℤ t.nanosecond) }
+{
+    if let Some(moment) = moment {
+        let _ = session.step(Event::End, moment);
     }
 }
 
@@ -157,6 +184,8 @@ fn last_number(reports: &[Report], before: u32) -> u32
 #[derive(Drop)]
 pub struct Connection<'a> {
     session: Session<'a>,
+    /// What an operator is told of its last step.
+    noted: Noted,
     /// The clock by which the session goes.
     clock: SteadyClock,
     /// The book that is served, where its name is read.
@@ -204,6 +233,7 @@ impl<'a> Connection<'a> {
         match Feed::new(alloc) {
             Ok(feed) => Ok(Connection {
                 session: Session::new(alloc, house),
+                noted: Noted::NONE,
                 clock: SteadyClock::new(),
                 book,
                 feed,
@@ -226,6 +256,18 @@ impl<'a> Connection<'a> {
         ensures { result ≡ self.now.session.link.firm }
     {
         self.session.firm()
+    }
+
+    /// What an operator is told of the session's last step.
+    pub(crate) fn noted(&self) -> Noted {
+        self.noted
+    }
+
+    /// The gap that is open in what the firm sends, if one is.
+    pub fn gap(&self) -> Option<Gap>
+        ensures { result ≡ gap_of self.now.session.link }
+    {
+        self.session.gap()
     }
 
     /// The entry up to which its readings have looked, 0 at first.
@@ -256,6 +298,11 @@ impl<'a> Connection<'a> {
     /// What it has had of its firm's rate.
     pub fn pace(&self) -> &Pace {
         &self.pace
+    }
+
+    /// When its clock was read last.
+    pub(crate) fn read_at(&self) -> Option<Instant> {
+        self.clock.read_at()
     }
 
     /// Whether a write has waited for the peer.
@@ -319,6 +366,7 @@ impl<'a> Connection<'a> {
     }
 
     /// Takes an event that leads to no call.
+    #[inline(always)]
     pub(crate) fn quiet<R: Clock>(&mut self, rt: &R, event: Event<'_>) -> Result<(), Closed>
         requires { ShowFewParts event }
         ensures ok { OnOk result
@@ -333,7 +381,8 @@ impl<'a> Connection<'a> {
         ensures behind { self.new.behind ≡ self.old.behind }
         ensures tells { self.new.tells ≡ self.old.tells }
     {
-        match step(rt, &mut self.clock, &mut self.session, event) {
+        let moment = moment_for(rt, &mut self.clock, &event);
+        match step(&mut self.session, &mut self.noted, event, moment) {
             Ok(actions) => self.send(&actions),
             Err(e) => Err(e),
         }
@@ -379,8 +428,9 @@ impl<'a> Connection<'a> {
         }
     }
 
-    /// Takes the next frame that has come whole. A broken stream ends the session.
-    pub(crate) fn next<R: Clock>(&mut self, rt: &R) -> Result<Brought, Closed>
+    /// Takes the next frame that has come whole, of a turn the first one or a later one, which may
+    /// have the moment of the reply before it. A broken stream ends the session.
+    pub(crate) fn next<R: Clock>(&mut self, rt: &R, is_first: bool) -> Result<Brought, Closed>
         ensures brings { IfOk result
             (Brings (option_map (λ b. b.now) self.old.book) self.old.feed self.old.session
             self.new.session self.new.feed) }
@@ -392,6 +442,7 @@ impl<'a> Connection<'a> {
         ensures out { self.new.out.items ≡ self.old.out.items }
     {
         let was_on = self.session.firm().is_some();
+        let moment = self.clock.for_message(rt, is_first);
         match self.feed.next() {
             None => Ok(Brought::Nothing),
             Some(Frame::Partial) => Ok(Brought::Nothing),
@@ -401,12 +452,8 @@ impl<'a> Connection<'a> {
             }
             Some(Frame::Whole { fields, len }) => {
                 self.look.pass(len);
-                match step(
-                    rt,
-                    &mut self.clock,
-                    &mut self.session,
-                    Event::Message(fields),
-                ) {
+                let taken = Event::Message(fields);
+                match step(&mut self.session, &mut self.noted, taken, moment) {
                     Ok(actions) => {
                         let is_on = self.session.firm().is_some();
                         Ok(brought_by(was_on, is_on, actions, self.book, fields))
@@ -415,7 +462,7 @@ impl<'a> Connection<'a> {
                 }
             }
             Some(Frame::Broken { .. }) => {
-                let _ = step(rt, &mut self.clock, &mut self.session, Event::End);
+                end_session(&mut self.session, moment);
                 Err(Closed)
             }
         }
@@ -540,8 +587,8 @@ impl<'a> Connection<'a> {
         Ok(())
     }
 
-    /// Writes what the turn sends, in one write. One that is short has waited for the peer as long
-    /// as it may.
+    /// Writes what the turn sends, in one write. What it waits counts from the last reading of the
+    /// session's clock. One that is short has waited for the peer as long as it may.
     pub(crate) fn write<R: Clock, W: Write>(&mut self, rt: &R, to: &mut W) -> Result<(), Closed>
         ensures ok { OnOk result
             (Appends (W.contents to.old) (W.contents to.new) self.old.out.items) }
@@ -560,9 +607,8 @@ impl<'a> Connection<'a> {
         if whole == 0 {
             return Ok(());
         }
-        let begun = Instant::now(rt).ok();
         let written = to.write(self.out.as_slice());
-        self.is_slow = self.is_slow || has_waited(rt, begun);
+        self.is_slow = self.is_slow || has_waited(rt, self.clock.read_at());
         self.out.clear();
         match written {
             Ok(count) => { if count == whole { Ok(()) } else { Err(Closed) } }

@@ -36,6 +36,19 @@ pub(crate) fn sent_again(messages: &[u8]) -> u64 {
     count
 }
 
+/// The type of the message that a Reject is about, which comes first of these messages:
+/// RefMsgType (372).
+pub(crate) fn rejected_type(messages: &[u8]) -> &[u8] {
+    if let Frame::Whole { fields, .. } = read_frame(messages) {
+        for (tag, value) in fields {
+            if tag == tags::REF_MSG_TYPE {
+                return value;
+            }
+        }
+    }
+    b""
+}
+
 impl Look {
     /// A look at nothing, if one is needed.
     pub(crate) fn new(alloc: Global, is_on: bool) -> Look {

@@ -13,22 +13,30 @@ pub struct Span {
 }
 
 impl Span {
+    /// How many microseconds of it are over then. All, where that isn't known.
+    fn used_at(&self, at: Option<Instant>) -> u64 {
+        match at {
+            Some(at) => {
+                let passed = at.duration_since(self.start);
+                passed.as_micros().min(u128::from(u64::MAX)) as u64
+            }
+            None => u64::MAX,
+        }
+    }
+
     /// How many microseconds of it are over. All, where the clock can't be read.
     pub fn used<R: Clock>(&self, rt: &R) -> u64 {
-        match self.start.elapsed(rt) {
-            Ok(passed) => passed.as_micros().min(u128::from(u64::MAX)) as u64,
-            Err(_) => u64::MAX,
-        }
+        self.used_at(Instant::now(rt).ok())
     }
 }
 
-/// Whether a turn that has taken so many messages takes no further one. One without a span takes
-/// all.
-pub(crate) fn is_over<R: Clock>(rt: &R, span: Option<Span>, count: usize) -> bool
+/// Whether a turn that has taken so many messages takes no further one, where its clock was read
+/// then for the last one. A turn without a span takes all.
+pub(crate) fn is_over(span: Option<Span>, count: usize, at: Option<Instant>) -> bool
     ensures { IsTrue result → IsTrue (is_some span) }
 {
     match span {
-        Some(span) => count > 0 && is_spent(count as u64, span.used(rt), span.micros),
+        Some(span) => count > 0 && is_spent(count as u64, span.used_at(at), span.micros),
         None => false,
     }
 }

@@ -26,7 +26,7 @@ ghost use Rattle.gu_connection.specs.declared.worker.Left.TheVariants.{Nothing};
 use crate::beginning::Beginning;
 use crate::connection::{Brought, Closed, Connection};
 use crate::lingering::{linger, linger_wait};
-use crate::look::sent_again;
+use crate::look::{rejected_type, sent_again};
 use crate::span::{Span, is_over};
 use gu_base::{AllocId, Answer, Command, FirmId};
 use gu_board::{Tallies, parts_in};
@@ -34,7 +34,7 @@ use gu_codec::MAX_FRAME_LEN;
 use gu_command::NamedBook;
 use gu_desk::{Desk, Gate, Job, Seat};
 use gu_parties::House;
-use gu_session::{Actions, Event};
+use gu_session::{Actions, Event, Noted};
 use std::alloc::Global;
 use std::io;
 use std::io::{ErrorKind, Read, Write};
@@ -286,24 +286,40 @@ impl<'a, J: Job, R: Wait + Clock, G: Gate> Worker<'a, J, R, G> {
 
     /// Whether what stands first on a connection waits: it is a call or a request for resends, and
     /// its firm has had its rate.
+    #[inline(always)]
     fn is_late(&self, connection: &Connection<'_>) -> bool {
-        let Some(firm) = connection.firm() else {
-            return false;
-        };
         if !self.tallies.has_rate() {
             return false;
         }
+        let Some(firm) = connection.firm() else {
+            return false;
+        };
         let pace = connection.pace();
         let late = self.tallies.is_late(self.rt, &firm, pace) && connection.may_wait();
         self.tallies.note_waiting(&firm, pace, late);
         late
     }
 
-    /// Counts a message of a firm, and those that its step sends again.
+    /// Counts for an operator what went wrong with a firm's message, whose step sends this.
+    fn note_step(&self, firm: &FirmId, noted: Noted, sent: &[u8]) {
+        if let Some(reject) = noted.reject {
+            self.tallies
+                .note_reject(self.rt, self.number, firm, rejected_type(sent), reject);
+        }
+        if noted.dropped {
+            self.tallies.note_dropped(self.number);
+        }
+        if noted.resent > 0 {
+            self.tallies.note_resent(self.number, noted.resent as u64);
+        }
+    }
+
+    /// Counts a message of a firm, those that its step sends again, and what went wrong with it.
     fn count(&self, connection: &Connection<'_>, actions: &Actions) {
         let Some(firm) = connection.firm() else {
             return;
         };
+        self.note_step(&firm, connection.noted(), actions.send.as_slice());
         if self.tallies.has_rate() {
             let count = sent_again(actions.send.as_slice()).saturating_add(1);
             self.tallies
@@ -421,12 +437,14 @@ impl<'a, J: Job, R: Wait + Clock, G: Gate> Worker<'a, J, R, G> {
         }
     }
 
-    /// Takes the next frame of the bytes held, if one has come whole: whether there was one.
+    /// Takes the next frame of the bytes held, the turn's first one or a later one, if one has come
+    /// whole: whether there was one.
     #[tactic(auto, using(crate::proofs::Seen::itself, crate::proofs::Seen::still))]
     fn take(
         &self,
         seat: Seat<J>,
         connection: &mut Connection<'_>,
+        is_first: bool,
     ) -> (Seat<J>, Result<bool, Closed>)
         ensures takes { IfOk result.1 (λ some. TakesNext J.opening some
             (stands seat connection.old) (stands result.0 connection.new)) }
@@ -434,9 +452,12 @@ impl<'a, J: Job, R: Wait + Clock, G: Gate> Worker<'a, J, R, G> {
             (stands seat connection.old) (stands result.0 connection.new)) }
         ensures later { BeginsWith result.0.seen seat.seen }
     {
-        match connection.next(self.rt) {
+        match connection.next(self.rt, is_first) {
             Ok(Brought::Nothing) => (seat, Ok(false)),
-            Ok(Brought::Garbled) => (seat, Ok(true)),
+            Ok(Brought::Garbled) => {
+                self.tallies.note_garbled(self.number);
+                (seat, Ok(true))
+            }
             Ok(Brought::Message(actions)) => {
                 let (seat, acted) = self.act(seat, connection, actions);
                 match acted {
@@ -533,10 +554,10 @@ impl<'a, J: Job, R: Wait + Clock, G: Gate> Worker<'a, J, R, G> {
             if self.is_late(connection) {
                 return (seat, Ok(Left::Late));
             }
-            if is_over(self.rt, span, count) {
+            if is_over(span, count, connection.read_at()) {
                 return (seat, Ok(Left::Spent));
             }
-            let (back, taken) = self.take(seat, connection);
+            let (back, taken) = self.take(seat, connection, count == 0);
             seat = back;
             let Ok(some) = taken else {
                 return (seat, Err(Closed));

@@ -17,9 +17,8 @@ use Rattle.atomic_table.specs.contracts.owned.Table as Table
 use Rattle.atomic_table.specs.contracts.shared.Seat as Pass
 use Rattle.gu_base.proofs.entry.Entry.TheSendSync as entry
 use Rattle.gu_base.specs.contracts.entry.Entry as Entry
-use Rattle.gu_book.proofs.Crossing.{book_send}
 use Rattle.gu_book.specs.contracts.book.Book as Book
-use Rattle.gu_trace.proofs.index.ConcernIndex.TheSendSync as index
+use Rattle.gu_trace.proofs.Crossing.{indexed_send}
 use Rattle.gu_desk.specs.contracts.count.CountRuleTableRuleEntryPassViewBook.TheImpl as rule
 use Rattle.gu_desk.specs.contracts.count.CountRule as CountRule
 use Rattle.gu_desk.specs.contracts.count.PassView as PassView
@@ -64,7 +63,7 @@ pub seat_send : (job : RattleType) (n : named.Ghosts job.Denot) (l : ledger.Ghos
     → IsSend (Seat.the_row job n l)
 seat_send job n l = search (share.the_send, pass_send, sendable) depth 12
 
--- written by hand, field by field, since `search` doesn't find the rows of six fields
+-- written by hand, field by field, since `search` doesn't find the rows of five fields
 till_send : (job : RattleType) (n : named.Ghosts job.Denot) (l : ledger.Ghosts job.Denot)
     → IsSend (Till.the_row job n l)
 till_send job n l =
@@ -75,15 +74,12 @@ till_send job n l =
         (λ vss. (
           tt,
           (
-            book_send.owned t.0.book vss.0,
+            indexed_send.owned t.0.book vss.0,
             (
-              index.the_send.owned t.0.index vss.1.0,
+              counted.owned t.0.total vss.1.0,
               (
-                counted.owned t.0.total vss.1.1.0,
-                (
-                  part.owned t.0.opening vss.1.1.1.0,
-                  (count_send.owned t.0.count vss.1.1.1.1.0, (pass_send.owned t.0.pass vss.1.1.1.1.1.0, tt)),
-                ),
+                part.owned t.0.opening vss.1.1.0,
+                (count_send.owned t.0.count vss.1.1.1.0, (pass_send.owned t.0.pass vss.1.1.1.1.0, tt)),
               ),
             ),
           ),

@@ -91,30 +91,6 @@ fn cut_seats<J: Job>(
     Ok(seats)
 }
 
-/// The opening share with the shares of the seats, whose passes are laid into the book's.
-fn merge_seats<J: Job>(
-    opening: Share<J>,
-    count: &Count,
-    pass: &mut Pass,
-    seats: Vec<Seat<J>>,
-) -> Share<J>
-    requires some { 1 ≤ vec_len seats }
-    requires tables { IsOf (arc_value count.now).shared.table_id pass.old.table_id }
-    requires job { (arc_value count.now).shared.table_id ≡ J.table }
-    requires books { pass.old.me ≡ (of_book pass.old.me.0.seen, []) }
-    ensures parts { result.parts ≡ opening.parts + vec_len seats }
-    ensures amount { result.amount ≡ opening.amount + sum_by (λ s. s.share) seats.items }
-    ensures apart { result.parts ≤ J.parts }
-    ensures begins { All (λ s. BeginsWith pass.old.me.0.seen s.seen) seats.items }
-{
-    let mut all = opening;
-    for seat in seats {
-        let share = seat.into_share(count, pass);
-        all.merge(share);
-    }
-    all
-}
-
 impl<J: Job> Desk<J> {
     /// A desk over the ground's book, and a seat for each worker.
     ///
@@ -167,7 +143,6 @@ impl<J: Job> Desk<J> {
     {
         let Ground {
             book,
-            index,
             workers,
             blank,
             count,
@@ -175,17 +150,17 @@ impl<J: Job> Desk<J> {
             journal,
         } = ground;
         let Ok(beside) = Arc::try_clone(&count) else {
-            return Err((book, AllocError));
+            return Err((book.into_book(), AllocError));
         };
         let (mut total, mut opening) = blank.open::<J>();
         let Ok(seats) = cut_seats(alloc, &mut opening, &count, &mut pass, workers) else {
-            return Err((book, AllocError));
+            return Err((book.into_book(), AllocError));
         };
-        total.add(&mut opening, book.history().len() as u64);
-        let journal = JournalSeat::new(journal, book.history().len() as u32);
+        let entries = book.as_book().history().len();
+        total.add(&mut opening, entries as u64);
+        let journal = JournalSeat::new(journal, entries as u32);
         let till = Till {
             book,
-            index,
             total,
             opening,
             count,
@@ -344,6 +319,51 @@ impl<J: Job> Desk<J> {
         ensures desk { IfErr result (λ e. e.desk ≡ self) }
         ensures seats { IfErr result (λ e. e.seats ≡ seats) }
     {
+        match self.take_apart(seats) {
+            Ok((till, seats)) => Ok(till.end(seats)),
+            Err(left) => Err(left),
+        }
+    }
+
+    /// The book, against all seats. The journal's seat has then seen all of its history, which
+    /// begins with what it had seen and with what is durable.
+    ///
+    /// # Errors
+    ///
+    /// The desk and the seats that came, where fewer came than were given out.
+    pub fn close_seen(
+        self,
+        seats: Vec<Seat<J>>,
+        journal: &mut JournalSeat<J>,
+    ) -> Result<Book, CloseError<J>>
+        ensures run { IfOk result (λ b. IsRunOf J.opening (stored b)) }
+        ensures shown { IfOk result (λ b. b.history ≡ journal.new.seen) }
+        ensures begins { IfOk result (λ b. BeginsWith b.history journal.old.seen) }
+        ensures durable { IfOk result (λ b. BeginsWith b.history journal.old.kept) }
+        ensures kept { journal.new.kept ≡ journal.old.kept }
+        ensures missing { IfErr result (λ e. vec_len seats < self.seats) }
+        ensures desk { IfErr result (λ e. e.desk ≡ self) }
+        ensures seats { IfErr result (λ e. e.seats ≡ seats) }
+    {
+        match self.take_apart(seats) {
+            Ok((till, seats)) => {
+                let mut till = till;
+                till.show(journal);
+                Ok(till.end(seats))
+            }
+            Err(left) => Err(left),
+        }
+    }
+
+    /// What lies behind the lock, against all seats, which come back.
+    fn take_apart(self, seats: Vec<Seat<J>>) -> Result<(Till<J>, Vec<Seat<J>>), CloseError<J>>
+        ensures same { IfOk result (λ r. r.1 ≡ seats) }
+        ensures some { IfOk result (λ r. 1 ≤ vec_len r.1) }
+        ensures all { IfOk result (λ r. J.parts ≤ vec_len r.1 + 1) }
+        ensures missing { IfErr result (λ e. vec_len seats < self.seats) }
+        ensures desk { IfErr result (λ e. e.desk ≡ self) }
+        ensures seats { IfErr result (λ e. e.seats ≡ seats) }
+    {
         if seats.len() < self.workers as usize {
             return Err(CloseError { desk: self, seats });
         }
@@ -352,16 +372,6 @@ impl<J: Job> Desk<J> {
             count: _,
             workers: _,
         } = self;
-        let Till {
-            book,
-            index: _,
-            mut total,
-            opening,
-            count,
-            mut pass,
-        } = till.into_inner();
-        let mut all = merge_seats(opening, &count, &mut pass, seats);
-        total.audit(&mut all);
-        Ok(book)
+        Ok((till.into_inner(), seats))
     }
 }

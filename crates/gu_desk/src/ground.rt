@@ -6,7 +6,7 @@ ghost use Rattle.gu_desk.specs.Views.{is_worker_count};
 use crate::count::{Count, Pass, open_count};
 use gu_base::Memory;
 use gu_book::Book;
-use gu_trace::ConcernIndex;
+use gu_trace::IndexedBook;
 use std::alloc::{AllocError, Global};
 use std::marker::Model;
 use std::sync::ledger::Blank;
@@ -18,8 +18,7 @@ pub(crate) const MOST_WORKERS: u32 = 16;
 /// ledger that no type names yet. It is of use to one desk alone.
 #[derive(Drop)]
 pub struct Ground {
-    pub(crate) book: Book,
-    pub(crate) index: ConcernIndex,
+    pub(crate) book: IndexedBook,
     pub(crate) workers: u32,
     pub(crate) blank: Blank,
     pub(crate) count: Count,
@@ -34,7 +33,6 @@ impl Model for Ground {
     ghost use Rattle.std.specs.Arc.{arc_value};
     ghost use Rattle.gu_desk.specs.Passes.{IsOf, of_book, of_journal};
     ghost use Rattle.gu_desk.specs.Views.{GroundView, is_worker_count};
-    ghost use Rattle.gu_trace.specs.Index.{IsIndexOf};
 
     ghost Value = { GroundView };
 
@@ -51,8 +49,7 @@ impl Model for Ground {
         × (g.journal.table_id ≡ (arc_value g.count).shared.table_id)
         × (g.pass.me ≡ (of_book g.book.history, []))
         × (g.journal.me ≡ (of_journal g.book.history [], []))
-        × (length g.book.history ≤ most_entries)
-        × IsIndexOf g.book.house.house g.book.history g.index };
+        × (length g.book.history ≤ most_entries) };
 }
 
 impl Ground {
@@ -78,11 +75,8 @@ impl Ground {
         let Ok((count, pass, journal)) = open_count(alloc, &book) else {
             return Err((book, AllocError));
         };
-        let mut index = ConcernIndex::new(alloc);
-        let _ = index.file(alloc, &book);
         Ok(Ground {
-            book,
-            index,
+            book: IndexedBook::new(alloc, book),
             workers,
             blank: Blank::new(workers as u64 + 1),
             count,

@@ -9,9 +9,8 @@
 //!   pass. Its type keeps that the book's history is one that calls made of the opening book, that
 //!   it is as long as the total, and that the book's pass has seen it all. `Till::call` and
 //!   `Till::read` answer what the rules say at the till's own history.
-//! - The till holds an index of the entries by the firms that they concern, so a reading looks at
-//!   no other. The ground files what the book has, before anybody is served, and each call and
-//!   reading what has come since. Where memory lacks for that, a reading looks at what isn't filed.
+//! - The till's book has an index of the entries by the firms that they concern (gu_trace's
+//!   `IndexedBook`), so a reading looks at no other.
 //! - `Desk::call` and `Desk::read_reports` take the lock and hand on the till's answer. A seat goes
 //!   in and comes back: its share is greater by one exactly where the answer is Accepted, and it
 //!   has then seen the history that the call left. The answer is that of the rules at a history
@@ -31,7 +30,8 @@
 //!   That is the receipt. A `Ticket` is a pass that is split off a seat, for bytes that wait.
 //! - `Desk::news_above` tells whom new entries concern.
 //! - `Desk::close` gives the book back against all seats: its history is as long as the opening one
-//!   and the sum of the shares, and begins with what each seat has seen.
+//!   and the sum of the shares, and begins with what each seat has seen. `Desk::close_seen` shows
+//!   the journal's seat all of it.
 //! - `Desk::call`, `read_reports`, `copy_above` and `news_above` may wait for the lock; nothing
 //!   else here waits.
 //! - Its cases stand in the program `test_book`.

@@ -1,14 +1,17 @@
-//! What lies behind the lock of a desk: the book, its index, and the count of its records.
+//! What lies behind the lock of a desk: the book with its index, and the count of its records.
 ghost use Rattle.std.specs.Prelude.{◌≡◌, ◌+◌, ◌<◌, ◌≤◌, ◌++◌};
-ghost use Rattle.std.specs.Prelude.{ℕ, List, length, map, IfOk, OnOk, OnErr, IsTrue};
-ghost use Rattle.std.specs.List.{All};
+ghost use Rattle.std.specs.Prelude.{ℕ, List, [], length, map, vec_len, IfOk, OnOk, OnErr, IsTrue};
+ghost use Rattle.std.specs.Arc.{arc_value};
+ghost use Rattle.std.specs.List.{All, sum_by};
 ghost use Rattle.gu_base.specs.Limits.{most_parts};
 ghost use Rattle.gu_base.specs.Answers.{answer_to, after};
 ghost use Rattle.gu_book.specs.Front.{may_lack};
 ghost use Rattle.gu_book.specs.Ids.{NoIdTwice};
+ghost use Rattle.gu_book.specs.Seen.{stored};
 ghost use Rattle.gu_trace.specs.Reports.{most_reports, entries_for, reports_for};
 ghost use Rattle.gu_trace.specs.News.{is_news, is_told};
 ghost use Rattle.gu_desk.specs.Begins.{BeginsWith};
+ghost use Rattle.gu_desk.specs.Passes.{IsOf, of_book};
 ghost use Rattle.gu_desk.specs.Runs.{IsRunOf, HasSeen};
 ghost use Rattle.gu_desk.specs.Shares.{gained};
 
@@ -18,13 +21,13 @@ use crate::journal::JournalSeat;
 use crate::seat::{Job, Seat};
 use gu_base::{AllocId, Answer, Command, Entry, FirmId, Memory, Report};
 use gu_book::Book;
-use gu_trace::{ConcernIndex, News, news_above};
+use gu_trace::{IndexedBook, News, news_above};
 use std::alloc::Global;
 use std::marker::Model;
 use std::sync::ledger;
 use std::sync::ledger::Share;
 
-/// The book, its index, the total of all shares, the share of the opening history, the count of
+/// The book with its index, the total of all shares, the share of the opening history, the count of
 /// the records, and the book's pass. `Desk::new` alone makes one.
 ///
 /// Contracts see the house table and the history of the book. Whenever the lock is free, its
@@ -32,8 +35,7 @@ use std::sync::ledger::Share;
 /// index goes with it.
 #[derive(Drop)]
 pub struct Till<J: Job> {
-    pub(crate) book: Book,
-    pub(crate) index: ConcernIndex,
+    pub(crate) book: IndexedBook,
     pub(crate) total: ledger::Book<J>,
     pub(crate) opening: Share<J>,
     pub(crate) count: Count,
@@ -48,7 +50,6 @@ impl<J: Job> Model for Till<J> {
     ghost use Rattle.std.specs.Arc.{arc_value};
     ghost use Rattle.gu_desk.specs.Passes.{IsOf, of_book};
     ghost use Rattle.gu_desk.specs.Runs.{IsRunOf};
-    ghost use Rattle.gu_trace.specs.Index.{IsIndexOf};
 
     ghost Value = { HouseAndHistory };
 
@@ -62,8 +63,7 @@ impl<J: Job> Model for Till<J> {
         × IsOf (arc_value t.count).shared.table_id t.pass.table_id
         × (t.pass.me ≡ (of_book t.book.history, []))
         × NoIdTwice t.book.history
-        × (length t.book.history ≤ most_entries)
-        × IsIndexOf t.book.house.house t.book.history t.index };
+        × (length t.book.history ≤ most_entries) };
 }
 
 /// Counts an accepted call in the total and in the share of the seat that made it.
@@ -82,6 +82,30 @@ fn add_gained<J: Job>(
     }
 }
 
+/// The opening share with the shares of the seats, whose passes are laid into the book's.
+fn merge_seats<J: Job>(
+    opening: Share<J>,
+    count: &Count,
+    pass: &mut Pass,
+    seats: Vec<Seat<J>>,
+) -> Share<J>
+    requires some { 1 ≤ vec_len seats }
+    requires tables { IsOf (arc_value count.now).shared.table_id pass.old.table_id }
+    requires job { (arc_value count.now).shared.table_id ≡ J.table }
+    requires books { pass.old.me ≡ (of_book pass.old.me.0.seen, []) }
+    ensures parts { result.parts ≡ opening.parts + vec_len seats }
+    ensures amount { result.amount ≡ opening.amount + sum_by (λ s. s.share) seats.items }
+    ensures apart { result.parts ≤ J.parts }
+    ensures begins { All (λ s. BeginsWith pass.old.me.0.seen s.seen) seats.items }
+{
+    let mut all = opening;
+    for seat in seats {
+        let share = seat.into_share(count, pass);
+        all.merge(share);
+    }
+    all
+}
+
 impl<J: Job> Till<J> {
     /// The accepted commands, in order: a history that calls made of the opening book. It has no
     /// caller, and is there for its clauses as a law is: they hold whenever the lock is free.
@@ -89,7 +113,7 @@ impl<J: Job> Till<J> {
         ensures value { result.now ≡ self.now.history }
         ensures run { IsRunOf J.opening self.now }
     {
-        self.book.history()
+        self.book.as_book().history()
     }
 
     /// Answers a call by the book, and gives the seat back.
@@ -130,8 +154,8 @@ impl<J: Job> Till<J> {
         let mut share = seat.into_share(&self.count, &mut self.pass);
         let answer = self.book.apply(alloc, by, id, command);
         add_gained(&mut self.total, &mut share, &answer);
-        publish_accepted(&self.count, &mut self.pass, self.book.history(), &answer);
-        let _ = self.index.file(alloc, &self.book);
+        let history = self.book.as_book().history();
+        publish_accepted(&self.count, &mut self.pass, history, &answer);
         let seat = Seat::new(share, &self.count, &mut self.pass);
         (seat, answer)
     }
@@ -166,8 +190,7 @@ impl<J: Job> Till<J> {
         ensures once { NoIdTwice self.old.history }
     {
         let share = seat.into_share(&self.count, &mut self.pass);
-        let _ = self.index.file(alloc, &self.book);
-        let told = self.index.reports_by(alloc, &self.book, firm, after);
+        let told = self.book.reports(alloc, firm, after);
         let seat = Seat::new(share, &self.count, &mut self.pass);
         (seat, told)
     }
@@ -194,7 +217,7 @@ impl<J: Job> Till<J> {
         ensures once { NoIdTwice self.old.history }
     {
         journal.see(&self.count, &mut self.pass);
-        copies_above(alloc, &self.book, journal.kept())
+        copies_above(alloc, self.book.as_book(), journal.kept())
     }
 
     /// The firms that each entry above a number concerns, some of them maybe twice, in the history
@@ -219,6 +242,40 @@ impl<J: Job> Till<J> {
     {
         let pass = &mut self.pass;
         journal.see(&self.count, pass);
-        news_above(alloc, &self.book, above)
+        news_above(alloc, self.book.as_book(), above)
+    }
+
+    /// Shows the journal's seat the history.
+    pub(crate) fn show(&mut self, journal: &mut JournalSeat<J>)
+        ensures same { self.new ≡ self.old }
+        ensures seen { journal.new.seen ≡ self.old.history }
+        ensures begins { BeginsWith self.old.history journal.old.seen }
+        ensures durable { BeginsWith self.old.history journal.old.kept }
+        ensures kept { journal.new.kept ≡ journal.old.kept }
+    {
+        let pass = &mut self.pass;
+        journal.see(&self.count, pass);
+    }
+
+    /// The book, against all seats.
+    pub(crate) fn end(self, seats: Vec<Seat<J>>) -> Book
+        requires some { 1 ≤ vec_len seats }
+        requires all { J.parts ≤ vec_len seats + 1 }
+        ensures book { stored result ≡ self }
+        ensures length { length result.history
+            ≡ length J.opening.history + sum_by (λ s. s.share) seats.items }
+        ensures run { IsRunOf J.opening (stored result) }
+        ensures seen { All (λ s. BeginsWith result.history s.seen) seats.items }
+    {
+        let Till {
+            book,
+            mut total,
+            opening,
+            count,
+            mut pass,
+        } = self;
+        let mut all = merge_seats(opening, &count, &mut pass, seats);
+        total.audit(&mut all);
+        book.into_book()
     }
 }

@@ -1,6 +1,6 @@
 //! The hash of a firm and an id: SipHash-1-3 under a key. Its words are read from the rooms that
 //! the texts lie in, so no byte is looked at alone.
-ghost use Rattle.std.specs.Prelude.{◌≡◌, ◌≤◌, ◌<◌, ◌+◌, ◌*◌, ◌/◌, ◌%◌, ◌^◌, length};
+ghost use Rattle.std.specs.Prelude.{◌≡◌, ◌≤◌, ◌<◌, ◌+◌, ◌*◌, ◌/◌, ◌%◌, ◌^◌, ◌↔◌, length, IsTrue};
 ghost use Rattle.std.specs.Hash.DefaultHasher.{read_word};
 ghost use Rattle.gu_base.specs.Limits.{longest_id, longest_name};
 ghost use Rattle.gu_ids.specs.Hashing.{begun, finished, taken, taken_of, turned};
@@ -282,6 +282,14 @@ impl IdHash {
             value: hash_of(key, firm, id),
             key,
         }
+    }
+
+    /// Whether this is the hash of the firm and the id: the test for that condition of a history's
+    /// calls.
+    pub fn is_of(self, firm: &FirmId, id: &AllocId) -> bool
+        ensures { IsTrue result ↔ IsHashOf self firm.now id.now }
+    {
+        self.value == hash_anew(self.key, firm, id)
     }
 
     /// The hash under this key of the firm and the id whose hash this is: one that is under another

@@ -1,6 +1,6 @@
 //! The numbers of a history's entries, in chains by hash.
 ghost use Rattle.std.specs.Prelude.{true, ◌≡◌, ◌≤◌, ◌<◌, ◌*◌, ◌==◌, ◌&&◌, [], ◌∷◌, ◌++◌, ℕ, List};
-ghost use Rattle.std.specs.Prelude.{length, replicate, vec_capacity, OnOk};
+ghost use Rattle.std.specs.Prelude.{length, replicate, vec_capacity, IsTrue, OnOk, ◌↔◌};
 ghost use Rattle.gu_base.specs.Limits.{most_entries};
 ghost use Rattle.gu_base.specs.declared.entry.Entry.{Entry};
 ghost use Rattle.gu_ids.specs.Hashing.{hash_of, IsHashOf};
@@ -19,7 +19,7 @@ const FEWEST_BUCKETS: usize = 16;
 
 /// What is kept of an entry.
 #[derive(Clone, Copy)]
-struct Link {
+pub(crate) struct Link {
     /// The hash of its firm and id.
     hash: u32,
     /// The number of the entry before it in its bucket, 0 for none.
@@ -33,7 +33,7 @@ struct Link {
 /// two entries share a bucket, but then there would be twice as many buckets, and fewer of them in
 /// the processor's caches.
 #[derive(Clone, Copy)]
-struct Bucket {
+pub(crate) struct Bucket {
     /// The number of its newest entry, 0 for none.
     newest: u32,
     /// The marks of its entries, two bits each.
@@ -42,7 +42,7 @@ struct Bucket {
 
 /// The number of each entry of a history, by the firm and the id of its call.
 #[derive(Drop)]
-pub struct Ids {
+pub(crate) struct Ids {
     /// For each entry of the history.
     links: Vec<Link>,
     /// For each bucket.
@@ -143,7 +143,7 @@ fn is_of(link: Link, hash: u32, entry: &Entry, firm: &FirmId, id: &AllocId) -> b
 
 impl Ids {
     /// The ids of no history.
-    pub fn new(alloc: Global) -> Ids
+    pub(crate) fn new(alloc: Global) -> Ids
         ensures { AreIdsOf result [] }
     {
         Ids {
@@ -155,7 +155,7 @@ impl Ids {
 
     /// The number of the newest entry of this firm and id, which have this hash, in the history
     /// whose ids these are.
-    pub fn number(
+    pub(crate) fn number(
         &self,
         entries: &[Entry],
         firm: &FirmId,
@@ -212,11 +212,7 @@ impl Ids {
 
     /// Makes room for one more entry. Where there are four times as many entries as buckets it
     /// makes twice as many buckets, and links all entries anew.
-    ///
-    /// # Errors
-    ///
-    /// `Memory` where a growth was refused.
-    pub fn ready(&mut self) -> Result<(), Memory>
+    pub(crate) fn ready(&mut self) -> Result<(), Memory>
         requires { count self.old ≤ most_entries }
         ensures ready { OnOk result (IsReady self.new) }
         ensures same { (h : List Entry) → AreIdsOf self.old h → AreIdsOf self.new h }
@@ -226,6 +222,13 @@ impl Ids {
         }
         self.links.reserve(1)?;
         Ok(())
+    }
+
+    /// Whether there is room for one more entry.
+    pub(crate) fn is_ready(&self) -> bool
+        ensures { IsTrue result ↔ IsReady self.now }
+    {
+        self.links.len() < self.links.capacity() && self.links.len() / 4 < self.buckets.len()
     }
 
     /// Makes half as many buckets as there are entries, in place of those that are there, and links
@@ -274,14 +277,14 @@ impl Ids {
 
     /// The hash of this firm and id under the key of these ids.
     #[inline(always)]
-    pub fn hash_of(&self, firm: &FirmId, id: &AllocId) -> IdHash
+    pub(crate) fn hash_of(&self, firm: &FirmId, id: &AllocId) -> IdHash
         ensures { IsHashOf result firm.now id.now }
     {
         IdHash::of(self.key, firm, id)
     }
 
     /// Adds the entry of this firm and id, which have this hash: it comes next in the history.
-    pub fn add(&mut self, hash: IdHash, firm: &FirmId, id: &AllocId)
+    pub(crate) fn add(&mut self, hash: IdHash, firm: &FirmId, id: &AllocId)
         requires ready { IsReady self.old }
         requires few { count self.old < most_entries }
         requires hash { IsHashOf hash firm.now id.now }
@@ -326,7 +329,7 @@ impl Ids {
 
     /// Makes the hashes of this history's entries anew, under this key, and links the entries anew.
     /// Takes time by their number, and no memory.
-    pub fn rekey(&mut self, entries: &[Entry], key: HashKey)
+    pub(crate) fn rekey(&mut self, entries: &[Entry], key: HashKey)
         requires ids { AreIdsOf self.old entries.now }
         requires few { length entries.now ≤ most_entries }
         ensures ids { AreIdsOf self.new entries.now }

@@ -1,5 +1,5 @@
 -- The frames at the front of a file are taken, a piece at a time.
-use Rattle.std.proofs.Common.{Result, Ok, Err, false, ◌≡◌, ℕ, ◌+◌, ◌<◌, ◌≤◌, List, [], ◌∷◌}
+use Rattle.std.proofs.Common.{Result, Ok, Err, false, ◌≡◌, ◌≢◌, ℕ, ◌+◌, ◌<◌, ◌≤◌, List, [], ◌∷◌}
 use Rattle.std.proofs.Common.{◌++◌, length, take, refl, sym, ◌∙◌, ap, subst, arith, append_assoc}
 use Rattle.std.proofs.Common.{append-nil, length-append, length-take}
 use Rattle.std.specs.Prelude.{IfErr, IsErr, IsErrAnd, slice_index}
@@ -19,7 +19,7 @@ use Rattle.sha2.specs.Hashers.{Holds512}
 use Rattle.gu_journal.specs.Journal.{IsOneFrame, IsNumbered, IsHead, IsSeal, Says, says_none, says_next}
 use Rattle.gu_journal.specs.Journal.{IsJournal, head_alone, group_more}
 use Rattle.gu_journal.specs.Recovered.{Replays}
-use Rattle.gu_journal.specs.Taking.{IsFault, IsTold, AddsNext, Takes, SaysNext, IsOpenAt, IsTaken}
+use Rattle.gu_journal.specs.Taking.{IsFault, IsTold, AddsNext, Takes, SaysNext, IsOpenAt, IsTaken, IsSealedAt}
 use Rattle.gu_journal.specs.declared.damage.RecoverError.{RecoverError}
 use Rattle.gu_journal.specs.declared.damage.RecoverError.TheVariants as error
 use Rattle.gu_journal.specs.declared.replay.Stand.{Stand}
@@ -103,6 +103,42 @@ takes_on t pin taken frame Unsealed Sealed h more m takes is one =
     (seal_on t pin taken frame h m (unsealed t pin taken h is) takes.0 one)
 takes_on t pin taken frame Unsealed Unsealed h more m takes is one =
     entry_on t pin taken frame h more m (unsealed t pin taken h is) takes one
+
+-- and where the sealed part of it ends, with the number of the first entry behind that
+pub sealed_on : (t : House) (pin taken frame : List ℕ) (old new : Stand) (h more : List Entry) (m : Message)
+    (takes : Takes t pin taken old h m new more) (is : IsTaken t pin taken old h) (one : IsOneFrame frame m)
+    (at first end next : ℕ) → IsSealedAt t pin taken old h at first
+    → (new ≡ Sealed → (end ≡ length (taken ++ frame)) × (next ≡ length h + 1))
+    → (new ≢ Sealed → (end ≡ at) × (next ≡ first))
+    → IsSealedAt t pin (taken ++ frame) new more end next
+unfolding entry_on sealed unsealed
+sealed_on t pin taken frame old Fresh h more m takes is one at first end next was at_seal open_still =
+    absurd (none old takes)
+  where
+    none : (old : Stand) → Takes t pin taken old h m Fresh more → ⊥
+    none Fresh takes = takes
+    none Sealed takes = takes
+    none Unsealed takes = takes
+sealed_on t pin taken frame old Sealed h more m takes is one at first end next was at_seal open_still =
+    let now = at_seal refl in (now.0, now.1 ∙ ap (λ (k : List Entry). length k + 1) (sym (same old takes)))
+  where
+    same : (old : Stand) → Takes t pin taken old h m Sealed more → more ≡ h
+    same Fresh takes = takes.1
+    same Sealed takes = takes.1
+    same Unsealed takes = takes.1
+sealed_on t pin taken frame Fresh Unsealed h more m takes is one at first end next was at_seal open_still = absurd takes
+sealed_on t pin taken frame Sealed Unsealed h more m takes is one at first end next was at_seal open_still =
+    let now = open_still (λ e. cc) in (
+      entry_on t pin taken frame h more m (sealed t pin taken h is) takes one,
+      now.0 ∙ was.0,
+      now.1 ∙ was.1,
+    )
+sealed_on t pin taken frame Unsealed Unsealed h more m takes is one at first end next was at_seal open_still =
+    let now = open_still (λ e. cc) in (
+      entry_on t pin taken frame h more m (unsealed t pin taken h was.0) takes one,
+      now.0 ∙ was.1,
+      now.1 ∙ was.2,
+    )
 
 -- ---- errors
 
@@ -240,9 +276,13 @@ pub replays_on : (t : House) (pin taken frame : List ℕ) (m fields : Message) (
     (before after : BookView)
     → Replays t pin taken old before → m ≡ fields → mid.stand ≡ old.stand
     → Takes before.house pin taken mid.stand before.history m new.stand after.history → after.house ≡ before.house
-    → IsOneFrame frame fields → Holds512 new.hasher (taken ++ frame)
+    → IsOneFrame frame fields
+    → (new.stand ≡ Sealed → (new.sealed ≡ length (taken ++ frame)) × (new.first ≡ length before.history + 1))
+    → (new.stand ≢ Sealed → (new.sealed ≡ old.sealed) × (new.first ≡ old.first))
+    → Holds512 new.hasher (taken ++ frame)
     → Replays t pin (taken ++ frame) new after
-replays_on t pin taken frame m fields old mid new before after is same_fields same takes house one hashed =
+replays_on t pin taken frame m fields old mid new before after is same_fields same takes house one at_seal open_still
+    hashed =
     let told : Takes before.house pin taken mid.stand before.history fields new.stand after.history =
     subst (λ (n : Message). Takes before.house pin taken mid.stand before.history n new.stand after.history) same_fields
     takes in
@@ -252,5 +292,7 @@ replays_on t pin taken frame m fields old mid new before after is same_fields sa
     record {
       house = house ∙ is.house;
       stands = takes_on t pin taken frame old.stand new.stand before.history after.history fields step is.stands one;
+      sealed = sealed_on t pin taken frame old.stand new.stand before.history after.history fields step is.stands one
+          old.sealed old.first new.sealed new.first is.sealed at_seal open_still;
       hashed = hashed;
     }

@@ -1,8 +1,9 @@
 -- What is written of a group makes a longer journal.
-use Rattle.std.proofs.Common.{◌≡◌, ℕ, ◌+◌, ◌-◌, ◌≤◌, List, [], ◌∷◌, ◌++◌, length, length-drop}
+use Rattle.std.proofs.Common.{◌≡◌, ℕ, ◌+◌, ◌-◌, ◌<◌, ◌≤◌, List, [], ◌∷◌, ◌++◌, length, length-drop}
 use Rattle.std.proofs.Common.{take, drop, refl, sym, ◌∙◌, ap, subst, arith, append_assoc, length-append, IsTrue}
 use Rattle.std.specs.List.{AllByRecursion}
-use Rattle.std.proofs.lemmas.List.{append-nil, take_at, take_all, drop_at}
+use Rattle.std.proofs.lemmas.List.{append-nil, take_all, drop_at}
+use Rattle.std.proofs.lemmas.List.Elements.{All-from_recursion}
 use Rattle.gu_base.specs.House.{House}
 use Rattle.gu_base.specs.Names.{is_firm_text}
 use Rattle.gu_base.specs.Answers.{answer_to}
@@ -10,38 +11,46 @@ use Rattle.gu_base.specs.Runs.{call_of, opening_history, IsRunFrom}
 use Rattle.gu_base.specs.declared.entry.Entry.{Entry}
 use Rattle.gu_base.specs.declared.entry.Answer.TheVariants.{Accepted}
 use Rattle.gu_codec.specs.Writing.{message_text}
-use Rattle.gu_store.specs.Store.{IsGroup, frames_in}
+use Rattle.gu_store.specs.Zeros.{HasNoZero}
+use Rattle.hex.specs.Hex.{IsBytes}
 use Rattle.gu_journal.specs.Entries.{is_trade, message_of}
 use Rattle.gu_journal.specs.Session.{head_of, seal_of, seal_with}
-use Rattle.gu_journal.specs.Groups.{entry_frames, group_frames, head_frame, group_of, IsSayableEntry}
+use Rattle.gu_journal.specs.Groups.{entry_frames, group_frames, head_frame, IsSayableEntry}
 use Rattle.gu_journal.specs.Groups.{IsMoment, IsGroupOf}
-use Rattle.gu_codec.specs.Messages.{Message}
 use Rattle.sha2.specs.Hashers.{Holds512}
 use Rattle.sha2.specs.Sha512.{sha512}
 use Rattle.sha2.specs.declared.Sha512.{Sha512}
 use Rattle.gu_journal.specs.Journal.{IsNumbered, IsHead, IsNext, IsSeal, Says, says_none, says_next, IsJournal}
-use Rattle.gu_journal.specs.Journal.{head_alone, group_more}
+use Rattle.gu_journal.specs.Journal.{head_alone, group_more, IsGroupBehind}
+use Rattle.gu_journal.proofs.Clear.{IsClear, clear_by, clear_join}
 use Rattle.gu_journal.proofs.Frames.{one_frame, first_eight}
 use Rattle.gu_journal.proofs.Meanings.{call_is, head_is, seal_is}
 use Rattle.gu_journal.proofs.Writable.{call_writable, head_writable, seal_writable}
+use Rattle.gu_journal.proofs.Writable.{call_clear, head_clear, seal_clear}
 
 -- ---- as bytes
 
--- frames begin with `8`, so they and a shut gate are a group
-frames_begin : (house moment : List ℕ) (n : ℕ) (es : List Entry) (m : Message) → (rest : List ℕ)
-    × (entry_frames house moment n es ++ message_text m ≡ 56 ∷ rest)
-frames_begin house moment n [] m = first_eight m
-frames_begin house moment n (e ∷ es) m =
-    let first = first_eight (message_of house moment n (call_of e)) in
-    let later = entry_frames house moment (n + 1) es in
-    ((first.0 ++ later) ++ message_text m, ap (λ (t : List ℕ). (t ++ later) ++ message_text m) first.1)
+-- no byte of the entries' frames is zero
+entries_clear : (house moment : List ℕ) (n : ℕ) (es : List Entry) → IsTrue (is_firm_text house) → IsClear moment
+    → AllByRecursion IsSayableEntry es → IsClear (entry_frames house moment n es)
+entries_clear house moment n [] named sent ok = tt
+entries_clear house moment n (e ∷ es) named sent ok =
+    clear_join (message_text (message_of house moment n (call_of e))) (entry_frames house moment (n + 1) es)
+    (call_clear house moment n (call_of e) named sent ok.0) (entries_clear house moment (n + 1) es named sent ok.1)
 
-group_from : (frames : List ℕ) → (rest : List ℕ) × (frames ≡ 56 ∷ rest) → IsGroup (group_of frames)
-group_from frames is = record { rest = is.0; parts = ap (λ (f : List ℕ). f ++ 10 ∷ []) is.1 }
+none_zero : (bytes : List ℕ) → IsClear bytes → HasNoZero bytes
+none_zero bytes clear = All-from_recursion (λ b. 0 < b) bytes clear
 
-pub frames_are : (frames : List ℕ) → frames_in (group_of frames) ≡ frames
-frames_are frames = take_at frames (10 ∷ []) (length (frames ++ 10 ∷ []) - 1)
-    (omega (arith, length-append frames (10 ∷ [])))
+pub head_no_zero : (house moment : List ℕ) (n : ℕ) (pin : List ℕ) → IsTrue (is_firm_text house) → IsMoment moment
+    → IsBytes pin → HasNoZero (head_frame house moment n pin)
+head_no_zero house moment n pin named is_moment bytes =
+    none_zero (head_frame house moment n pin)
+    (head_clear house moment n pin named (clear_by moment is_moment.clear) bytes)
+
+-- and the head's frame is something
+pub head_some : (house moment : List ℕ) (n : ℕ) (pin : List ℕ) → 0 < length (head_frame house moment n pin)
+head_some house moment n pin =
+    let some = first_eight (head_of house moment n pin) in omega (arith, ap length some.1)
 
 -- ---- as a journal
 
@@ -85,26 +94,44 @@ module _ (t : House) (named : IsTrue (is_firm_text t.house)) (moment : List ℕ)
       (entry_frames t.house moment (n + 1) es))
       (subst (λ (k : List Entry). Says t h0 ((bytes ++ frame) ++ entry_frames t.house moment (n + 1) es) k) more all)
 
-  -- a journal grows by a group
+  -- what is written is a group behind the bytes
+  pub group_is : (bytes : List ℕ) (h es : List Entry) (n : ℕ) → n ≡ length h + 1 → n + length es ≤ 1000001
+      → AllByRecursion IsSayableEntry es → IsRunFrom t h (h ++ es)
+      → IsGroupBehind t bytes h (group_frames t.house moment n es bytes) (h ++ es)
+  group_is bytes h es n n_is few ok run =
+      let entries = entry_frames t.house moment n es in
+      let next = n + length es in
+      let m = seal_of t.house moment next (bytes ++ entries) n in
+      let says : Says t h entries (h ++ es) = says_more h [] h es n says_none n_is few ok
+      (λ before after e. run.accepted before after e) in
+      let seal : IsSeal t (bytes ++ entries) (h ++ es) m = record {
+        meaning = seal_is t.house moment next named (omega (arith, n_is)) (omega (arith, few)) is_moment.timestamp
+            (bytes ++ entries) n;
+        number = numbered (length (h ++ es) + 1) next m (omega (arith, n_is, length-append h es)) refl;
+        digest = refl;
+      } in
+      let writable = seal_writable t.house moment next (bytes ++ entries) n named (omega (arith, few))
+      (omega (arith, few)) is_moment.text in
+      record {
+        entries = entries;
+        frame = message_text m;
+        m = m;
+        parts = refl;
+        says = says;
+        one = one_frame m writable;
+        seal = seal;
+      }
+
+  -- and with it the journal grows
   pub grows : (pin bytes : List ℕ) (h es : List Entry) (n : ℕ) → IsJournal t pin bytes h → n ≡ length h + 1
       → n + length es ≤ 1000001
       → AllByRecursion IsSayableEntry es → IsRunFrom t h (h ++ es)
       → IsJournal t pin (bytes ++ group_frames t.house moment n es bytes) (h ++ es)
   grows pin bytes h es n journal n_is few ok run =
-      let entries = entry_frames t.house moment n es in
-      let next = n + length es in
-      let m = seal_of t.house moment next (bytes ++ entries) in
-      let says : Says t h entries (h ++ es) = says_more h [] h es n says_none n_is few ok
-      (λ before after e. run.accepted before after e) in
-      let seal : IsSeal t (bytes ++ entries) (h ++ es) m = record {
-        meaning = seal_is t.house moment next named (omega (arith, n_is)) (omega (arith, few)) is_moment.timestamp
-            (bytes ++ entries);
-        number = numbered (length (h ++ es) + 1) next m (omega (arith, n_is, length-append h es)) refl;
-        digest = refl;
-      } in
-      let writable = seal_writable t.house moment next (bytes ++ entries) named (omega (arith, few)) is_moment.text in
-      subst (λ (b : List ℕ). IsJournal t pin b (h ++ es)) (append_assoc bytes entries (message_text m))
-      (group_more bytes entries (message_text m) h (h ++ es) m journal says (one_frame m writable) seal)
+      let g = group_is bytes h es n n_is few ok run in
+      subst (λ (b : List ℕ). IsJournal t pin b (h ++ es))
+      (append_assoc bytes g.entries g.frame ∙ ap (λ (b : List ℕ). bytes ++ b) (sym g.parts))
+      (group_more bytes g.entries g.frame h (h ++ es) g.m journal g.says g.one g.seal)
 
   -- a journal begins with its head
   pub begins : (pin : List ℕ) (n : ℕ) → length pin ≡ 32 → n ≡ length (opening_history t) + 1 → n ≤ 1000001
@@ -135,37 +162,40 @@ one_more house moment n m e later old new all so_far is next =
 
 -- the group is written, and the hasher has taken it in
 pub is_group_of : (house moment : List ℕ) (n : ℕ) (es : List Entry) (old one new : Sha512)
-    (frames sealed slice text digest : List ℕ) (at : ℕ)
-    → IsTrue (is_firm_text house) → AllByRecursion IsSayableEntry es → n + length es ≤ 1000001
+    (frames text slice digest : List ℕ) (at : ℕ)
+    → IsTrue (is_firm_text house) → IsMoment moment → IsBytes digest → AllByRecursion IsSayableEntry es
+    → n + length es ≤ 1000001
     → frames ≡ entry_frames house moment n es
     → ((m : List ℕ) → Holds512 old m → Holds512 one (m ++ frames))
     → ((m : List ℕ) → Holds512 one m → digest ≡ sha512 m)
-    → sealed ≡ frames ++ message_text (seal_with house moment (n + length es) digest)
-    → slice ≡ sealed → at ≡ length frames
+    → text ≡ frames ++ message_text (seal_with house moment (n + length es) digest n)
+    → slice ≡ text → at ≡ length frames
     → ((m : List ℕ) → Holds512 one m → Holds512 new (m ++ take (length slice - at) (drop at slice)))
-    → text ≡ sealed ++ 10 ∷ []
     → IsGroupOf house moment n es old new text
-is_group_of house moment n es old one new frames sealed slice text digest at named sayable few frames_is first digest_is
-    sealed_is slice_is at_is second text_is =
+is_group_of house moment n es old one new frames text slice digest at named is_moment bytes sayable few frames_is first
+    digest_is text_is slice_is at_is second =
     let next = n + length es in
-    let seal = message_text (seal_with house moment next digest) in
+    let seal = message_text (seal_with house moment next digest n) in
     let entries = entry_frames house moment n es in
-    let all : slice ≡ frames ++ seal = slice_is ∙ sealed_is in
-    let whole : text ≡ group_of (entries ++ seal) = text_is ∙ ap group_of (sealed_is
-    ∙ ap (λ (f : List ℕ). f ++ seal) frames_is) in
+    let all : slice ≡ frames ++ seal = slice_is ∙ text_is in
+    let whole : text ≡ entries ++ seal = text_is ∙ ap (λ (f : List ℕ). f ++ seal) frames_is in
+    let sent = clear_by moment is_moment.clear in
+    let some = first_eight (seal_with house moment next digest n) in
     let rest : take (length slice - at) (drop at slice) ≡ seal =
     take_all (length slice - at) (drop at slice) (omega (arith, length-drop at slice))
     ∙ ap (drop at) all ∙ drop_at frames seal at (sym at_is) in
     let sealed_of : (bytes : List ℕ) → Holds512 old bytes → entries ++ seal ≡ group_frames house moment n es bytes =
-    λ bytes h. ap (λ (d : List ℕ). entries ++ message_text (seal_with house moment next d))
+    λ bytes h. ap (λ (d : List ℕ). entries ++ message_text (seal_with house moment next d n))
     (digest_is (bytes ++ frames) (first bytes h) ∙ ap (λ (f : List ℕ). sha512 (bytes ++ f)) frames_is) in
     record {
-      is_group = subst IsGroup (sym whole) (group_from (entries ++ seal)
-          (frames_begin house moment n es (seal_with house moment next digest)));
+      some = omega (arith, ap length whole, length-append entries seal, ap length some.1);
+      no_zero = subst HasNoZero (sym whole) (none_zero (entries ++ seal) (clear_join entries seal
+          (entries_clear house moment n es named sent sayable)
+          (seal_clear house moment next digest n named sent bytes)));
       named = named;
       sayable = sayable;
       few = few;
-      group = λ bytes h. whole ∙ ap group_of (sealed_of bytes h);
+      group = λ bytes h. whole ∙ sealed_of bytes h;
       hashed = λ bytes h.
           let joined : (bytes ++ frames) ++ take (length slice - at)
           (drop at slice) ≡ bytes ++ group_frames house moment n es bytes =

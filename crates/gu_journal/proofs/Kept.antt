@@ -1,15 +1,76 @@
--- What a crash leaves of a journal at rest is read as the history that it keeps.
-use Rattle.std.proofs.Common.{◌≡◌, ℕ, List}
+-- What a crash leaves of a journal at rest is read as the history that it keeps, and a start answers it.
+use Rattle.std.proofs.Common.{◌≡◌, ◌≢◌, ℕ, zero, suc, ◌<◌, List, [], ◌∷◌, ◌++◌, length, sym, ◌∙◌, ap, arith}
+use Rattle.std.proofs.Common.{refl, length-append, append-nil}
 use Rattle.gu_base.specs.House.{House}
 use Rattle.gu_base.specs.declared.entry.Entry.{Entry}
 use Rattle.gu_batch.specs.Output.{history_of}
+use Rattle.gu_codec.specs.Messages.{Broken}
+use Rattle.gu_store.specs.Zeros.{zeros, counted, HasZero}
+use Rattle.gu_store.proofs.Counted.{counted_behind, counted_zeros}
+use Rattle.gu_journal.specs.Counting.{Stands, Recovers, IsPart}
+use Rattle.gu_journal.specs.Journal.{IsJournal}
 use Rattle.gu_journal.specs.Keeping.{disk_of, Keeps}
 use Rattle.gu_journal.specs.declared.journal.Journal.{Journal}
-use Rattle.gu_journal.proofs.Crashes.{shut_says}
-use Rattle.gu_journal.proofs.Staging.{kept_shut}
+use Rattle.gu_journal.proofs.Frames.{shut_ends}
+use Rattle.gu_journal.proofs.Playing.{history_is}
+use Rattle.gu_journal.proofs.Standing.{journal_recovers}
 
-pub kept_says : {D : Type 0} (seen : D → List ℕ) (may_leave : D → List ℕ → Type 0) (t : House) (pin : List ℕ)
-    (h : List Entry) (j : Journal D) → Keeps seen may_leave t pin h j → (c : List ℕ) → may_leave (disk_of j) c
-    → history_of t c ≡ h
-kept_says seen may_leave t pin h j k c left =
-    shut_says t pin k.bytes h k.is_journal c (kept_shut seen may_leave t pin h j k c left)
+none : ◌≢◌ {A = ℕ} 0 56
+none e = absurd (omega (arith, e))
+
+-- with a zero behind it a journal is read as its history
+pub zero_says : (t : House) (pin bytes more file : List ℕ) (h : List Entry) → IsJournal t pin bytes h
+    → file ≡ bytes ++ 0 ∷ more → history_of t file ≡ h
+zero_says t pin bytes more file h journal is =
+    ap (history_of t) is
+    ∙ history_is t pin bytes (0 ∷ more) h (Broken (length bytes)) journal (shut_ends (length bytes) 0 more none)
+
+-- zeros begin with one
+some_zeros : (n : ℕ) → 0 < n → (more : List ℕ) × (zeros n ≡ 0 ∷ more)
+some_zeros zero some = absurd (omega (arith, some))
+some_zeros (suc n) some = (zeros n, refl)
+
+module _ {D : Type 0} (seen : D → List ℕ) (may_leave : D → List ℕ → Type 0) (t : House) (pin : List ℕ)
+    (h : List Entry) (j : Journal D) (k : Keeps seen may_leave t pin h j) (c : List ℕ)
+    (left : may_leave (disk_of j) c) where
+  kept_file : c ≡ k.bytes ++ zeros j.store.left
+  kept_file = k.file.durable c left ∙ k.file.file
+
+  pub kept_says : history_of t c ≡ h
+  kept_says =
+      let zero = some_zeros j.store.left k.file.some in
+      zero_says t pin k.bytes zero.0 c h k.is_journal (kept_file ∙ ap (λ (l : List ℕ). k.bytes ++ l) zero.1)
+
+  kept_counted : counted c ≡ k.bytes
+  kept_counted =
+      ap counted kept_file ∙ counted_behind k.bytes (zeros j.store.left) k.file.no_zero
+      ∙ ap (λ (l : List ℕ). k.bytes ++ l)
+      (ap counted (sym (append-nil (zeros j.store.left))) ∙ counted_zeros j.store.left [] k.file.some)
+      ∙ append-nil k.bytes
+
+  pub kept_stands : Stands t pin c h
+  kept_stands = (k.bytes, k.is_journal, ([], kept_counted ∙ sym (append-nil k.bytes)))
+
+  pub kept_starts : Recovers t pin c h
+  kept_starts = journal_recovers t pin k.bytes c h k.is_journal kept_counted
+
+  pub kept_part : IsPart t pin c
+  kept_part = record {
+    zero = zero_behind j.store.left k.file.some kept_file;
+    bytes = k.bytes;
+    h = h;
+    journal = k.is_journal;
+    begins = ([], sym kept_counted ∙ sym (append-nil (counted c)));
+    stands = (h, kept_stands);
+  }
+    where
+      zero_behind : (n : ℕ) → 0 < n → c ≡ k.bytes ++ zeros n → HasZero c
+      zero_behind n some is =
+          let first = some_zeros n some in
+          omega (
+            arith,
+            ap length kept_counted,
+            ap length is,
+            ap length first.1,
+            length-append k.bytes (zeros n),
+          )

@@ -1,7 +1,6 @@
 -- What is left of a journal behind the frames that were taken.
-use Rattle.std.proofs.Common.{◌≡◌, ◌≢◌, ◌⊎◌, inl, inr, ℕ, ◌<◌, List, [], ◌∷◌, ◌++◌, length, take, drop, Some}
-use Rattle.std.proofs.Common.{None, Ok, refl, sym, ◌∙◌, ap, subst, arith, append_assoc, append-nil}
-use Rattle.std.specs.Prelude.{slice_index}
+use Rattle.std.proofs.Common.{◌≡◌, ◌≢◌, ◌⊎◌, inl, inr, ℕ, ◌<◌, ◌≤◌, List, [], ◌∷◌, ◌++◌, length, take, drop, Some}
+use Rattle.std.proofs.Common.{None, Ok, refl, sym, ◌∙◌, ap, subst, arith, append_assoc, append-nil, length-append}
 use Rattle.std.proofs.lemmas.List.{take_at, drop_at, drop-append-le, take-append-le}
 use Rattle.gu_base.specs.House.{House}
 use Rattle.gu_base.specs.Runs.{opening_history}
@@ -10,45 +9,52 @@ use Rattle.gu_codec.specs.Fronts.{Front, Whole, Garbled, Partial, Broken, IsFron
 use Rattle.gu_codec.specs.Grammar.{IsFront}
 use Rattle.gu_codec.specs.Messages.{Message}
 use Rattle.gu_codec.proofs.FrontOf.{front_alone}
-use Rattle.gu_codec.proofs.Streams.{begins_stays, broken_stays}
+use Rattle.gu_codec.proofs.Streams.{frame_len, begins_stays, broken_stays}
 use Rattle.gu_message.specs.Meaning.{meaning_of}
 use Rattle.gu_message.specs.declared.inbound.Inbound.{Inbound}
 use Rattle.gu_message.specs.declared.inbound.Inbound.TheVariants as inbound
-use Rattle.gu_journal.specs.Journal.{IsOneFrame, IsSeal, Says, says_none, says_next, IsJournal}
+use Rattle.gu_store.specs.Store.{StillHas}
+use Rattle.gu_journal.specs.Counting.{BeginsBy}
+use Rattle.gu_codec.specs.Tags as tag
+use Rattle.gu_message.specs.Finding.{value_of}
+use Rattle.hex.specs.Hex.{encode_lower}
+use Rattle.gu_journal.specs.Journal.{IsOneFrame, IsHead, IsSeal, Says, says_none, says_next, IsJournal, IsGroupBehind}
 use Rattle.gu_journal.specs.Journal.{head_alone, group_more}
 use Rattle.gu_journal.specs.Taking.{AddsNext, Takes, SaysNext, IsTaken}
 use Rattle.gu_journal.specs.declared.replay.Stand.{Stand}
 use Rattle.gu_journal.specs.declared.replay.Stand.TheVariants.{Fresh, Sealed, Unsealed}
-use Rattle.gu_journal.proofs.Frames.{shut_ends}
-use Rattle.gu_journal.proofs.Going.{adds_of}
+use Rattle.gu_journal.proofs.Going.{adds_of, front_frame, garbled_len}
 
--- Behind the bytes that were taken, the others are frames whose messages are taken in turn, up to
--- the head or a seal.
-pub data Leads (t : House) (pin : List ℕ) : List ℕ → Stand → List Entry → List ℕ → Type 0 where
-  leads_end : (taken : List ℕ) (h : List Entry) → Leads t pin taken Sealed h []
+-- Behind the bytes that were taken, the others are frames whose messages are taken in turn, up to the
+-- head or a seal, behind which all is said.
+pub data Leads (t : House) (pin : List ℕ) (all : List Entry) : List ℕ → Stand → List Entry → List ℕ → Type 0 where
+  leads_end : (taken : List ℕ) → Leads t pin all taken Sealed all []
   leads_on : (taken frame rest : List ℕ) (s next : Stand) (h new : List Entry) (m : Message)
       → IsOneFrame frame m → Takes t pin taken s h m next new
-      → Leads t pin (taken ++ frame) next new rest → Leads t pin taken s h (frame ++ rest)
-
--- a frame of so many bytes, which has this message, was taken from the front of these bytes
-pub record Stepped (t : House) (pin taken : List ℕ) (s : Stand) (h : List Entry) (m : Message)
-    (len : ℕ) (bytes later more : List ℕ) : Type 0 where
-  pub next : Stand
-  pub new : List Entry
-  pub rest : List ℕ
-  pub takes : Takes t pin taken s h m next new
-  pub leads : Leads t pin (taken ++ take len bytes) next new rest
-  pub left : rest ++ 10 ∷ more ≡ drop len bytes ++ later
-
--- the two gates differ, and how the journal stands
-ten : ◌≢◌ {A = ℕ} 10 56
-ten e = absurd (omega (arith, e))
+      → Leads t pin all (taken ++ frame) next new rest → Leads t pin all taken s h (frame ++ rest)
 
 sealed_behind : Sealed ≢ Fresh
 sealed_behind e = cc
 
 unsealed_behind : Unsealed ≢ Fresh
 unsealed_behind e = cc
+
+-- ---- histories
+
+-- what begins with a history
+pub begins_on : (a b c : List Entry) → BeginsBy b a → BeginsBy c b → BeginsBy c a
+begins_on a b c one two =
+    (one.0 ++ two.0, two.1 ∙ ap (λ (l : List Entry). l ++ two.0) one.1 ∙ append_assoc a one.0 two.0)
+
+pub says_begins : (t : House) (h : List Entry) (bytes : List ℕ) (new : List Entry) → Says t h bytes new
+    → BeginsBy new h
+says_begins t h _ _ says_none = ([], sym (append-nil h))
+says_begins t h _ _ (says_next bytes frame new e m says one next) =
+    begins_on h new (new ++ e ∷ []) (says_begins t h bytes new says) (e ∷ [], refl)
+
+pub frame_some : (frame : List ℕ) (m : Message) → IsOneFrame frame m → 0 < length frame
+frame_some frame m one = let some : 21 ≤ length frame = frame_len frame one.0 (length frame) one.1 in omega
+    (arith, some)
 
 -- ---- a journal, from its front
 
@@ -66,41 +72,43 @@ takes_seal t pin taken Sealed h m behind seal = (seal, refl)
 takes_seal t pin taken Unsealed h m behind seal = (seal, refl)
 
 -- what says entries, and a whole journal
-says_leads : (t : House) (pin bytes : List ℕ) (h : List Entry) (entries : List ℕ) (new : List Entry)
+says_leads : (t : House) (pin : List ℕ) (all : List Entry) (bytes : List ℕ) (h : List Entry) (entries : List ℕ)
+    (new : List Entry)
     → Says t h entries new → (rest : List ℕ)
-    → ((s : Stand) → s ≢ Fresh → Leads t pin (bytes ++ entries) s new rest)
-    → Leads t pin bytes Sealed h (entries ++ rest)
-says_leads t pin bytes h _ _ says_none rest behind = subst (λ (b : List ℕ). Leads t pin b Sealed h rest)
+    → ((s : Stand) → s ≢ Fresh → Leads t pin all (bytes ++ entries) s new rest)
+    → Leads t pin all bytes Sealed h (entries ++ rest)
+says_leads t pin all bytes h _ _ says_none rest behind = subst (λ (b : List ℕ). Leads t pin all b Sealed h rest)
     (append-nil bytes) (behind Sealed sealed_behind)
-says_leads t pin bytes h _ _ (says_next entries frame new e m says one next) rest behind =
+says_leads t pin all bytes h _ _ (says_next entries frame new e m says one next) rest behind =
     let more = new ++ e ∷ [] in
-    let on : (s : Stand) → s ≢ Fresh → Leads t pin (bytes ++ entries) s new (frame ++ rest) = λ s some.
+    let on : (s : Stand) → s ≢ Fresh → Leads t pin all (bytes ++ entries) s new (frame ++ rest) = λ s some.
     leads_on (bytes ++ entries) frame rest s Unsealed new more m one
     (takes_next t pin (bytes ++ entries) s new more m some (e, next, refl))
-    (subst (λ (b : List ℕ). Leads t pin b Unsealed more rest) (sym (append_assoc bytes entries frame))
+    (subst (λ (b : List ℕ). Leads t pin all b Unsealed more rest) (sym (append_assoc bytes entries frame))
     (behind Unsealed unsealed_behind)) in
-    subst (λ (l : List ℕ). Leads t pin bytes Sealed h l) (sym (append_assoc entries frame rest))
-    (says_leads t pin bytes h entries new says (frame ++ rest) on)
+    subst (λ (l : List ℕ). Leads t pin all bytes Sealed h l) (sym (append_assoc entries frame rest))
+    (says_leads t pin all bytes h entries new says (frame ++ rest) on)
 
-journal_leads : (t : House) (pin bytes : List ℕ) (h : List Entry) → IsJournal t pin bytes h → (rest : List ℕ)
-    → Leads t pin bytes Sealed h rest
-    → Leads t pin [] Fresh (opening_history t) (bytes ++ rest)
-journal_leads t pin _ _ (head_alone frame m one head) rest behind =
+journal_leads : (t : House) (pin : List ℕ) (all : List Entry) (bytes : List ℕ) (h : List Entry)
+    → IsJournal t pin bytes h → (rest : List ℕ)
+    → Leads t pin all bytes Sealed h rest
+    → Leads t pin all [] Fresh (opening_history t) (bytes ++ rest)
+journal_leads t pin all _ _ (head_alone frame m one head) rest behind =
     leads_on [] frame rest Fresh Sealed (opening_history t) (opening_history t) m one ((λ is. head), refl) behind
-journal_leads t pin _ _ (group_more bytes entries frame h new m journal says one seal) rest behind =
-    let on : (s : Stand) → s ≢ Fresh → Leads t pin (bytes ++ entries) s new (frame ++ rest) = λ s some.
+journal_leads t pin all _ _ (group_more bytes entries frame h new m journal says one seal) rest behind =
+    let on : (s : Stand) → s ≢ Fresh → Leads t pin all (bytes ++ entries) s new (frame ++ rest) = λ s some.
     leads_on (bytes ++ entries) frame rest s Sealed new new m one
     (takes_seal t pin (bytes ++ entries) s new m some seal) behind in
-    let all = journal_leads t pin bytes h journal (entries ++ (frame ++ rest))
-    (says_leads t pin bytes h entries new says (frame ++ rest) on) in
-    subst (λ (l : List ℕ). Leads t pin [] Fresh (opening_history t) l)
-    (sym (append_assoc (bytes ++ entries) frame rest ∙ append_assoc bytes entries (frame ++ rest))) all
+    let whole = journal_leads t pin all bytes h journal (entries ++ (frame ++ rest))
+    (says_leads t pin all bytes h entries new says (frame ++ rest) on) in
+    subst (λ (l : List ℕ). Leads t pin all [] Fresh (opening_history t) l)
+    (sym (append_assoc (bytes ++ entries) frame rest ∙ append_assoc bytes entries (frame ++ rest))) whole
 
 pub from_front : (t : House) (pin bytes : List ℕ) (h : List Entry) → IsJournal t pin bytes h
-    → Leads t pin [] Fresh (opening_history t) bytes
+    → Leads t pin h [] Fresh (opening_history t) bytes
 from_front t pin bytes h journal =
-    subst (λ (l : List ℕ). Leads t pin [] Fresh (opening_history t) l) (append-nil bytes)
-    (journal_leads t pin bytes h journal [] (leads_end bytes h))
+    subst (λ (l : List ℕ). Leads t pin h [] Fresh (opening_history t) l) (append-nil bytes)
+    (journal_leads t pin h bytes h journal [] (leads_end bytes))
 
 -- ---- what is taken is determined
 
@@ -161,28 +169,56 @@ frame_front : (frame later : List ℕ) (m : Message) → IsOneFrame frame m
     → IsFrontOf (frame ++ later) (Whole m (length frame))
 frame_front frame later m one = begins_stays frame later (record { fields = Some m; len = length frame }) one
 
-gate_front : (more : List ℕ) → IsFrontOf (10 ∷ more) (Broken 0)
-gate_front more =
-    let ends = shut_ends 0 10 more ten in
-    let zero : ends.0 ≡ 0 = omega (arith, ends.1) in
-    subst (λ (n : ℕ). IsFrontOf (10 ∷ more) (Broken n)) zero ends.2
-
 pub fronts : (s : List ℕ) (a b : Front) → IsFrontOf s a → IsFrontOf s b → a ≡ b
 fronts s a b x y = front_alone s a x ∙ sym (front_alone s b y)
 
-pub gate_at : (b more : List ℕ) → b ≡ 10 ∷ more → IsFrontOf b (Broken 0)
-gate_at b more is = subst (λ (x : List ℕ). IsFrontOf x (Broken 0)) (sym is) (gate_front more)
+-- ---- the house file of a journal
 
--- no frame stands at a shut gate
-pub gate_broken : (b more : List ℕ) (at : ℕ) → IsFrontOf b (Broken at) → b ≡ 10 ∷ more → at ≡ 0
-gate_broken b more at front is =
-    zero (fronts b (Broken at) (Broken 0) front (gate_at b more is))
+-- the head stands at the front
+headed : (t : House) (pin bytes : List ℕ) (h : List Entry) → IsJournal t pin bytes h → (more : List ℕ)
+    → (m : Message) × (len : ℕ) × IsHead t pin m × IsFrontOf (bytes ++ more) (Whole m len)
+headed t pin _ _ (head_alone frame m one head) more = (m, length frame, head, frame_front frame more m one)
+headed t pin _ _ (group_more bytes entries frame h new m journal says one seal) more =
+    let on = headed t pin bytes h journal (entries ++ (frame ++ more)) in (
+      on.0,
+      on.1,
+      on.2,
+      subst (λ (b : List ℕ). IsFrontOf b (Whole on.0 on.1))
+          (sym (append_assoc (bytes ++ entries) frame more ∙ append_assoc bytes entries (frame ++ more))) on.3,
+    )
+
+-- which says all that a journal has of the house file
+repinned : (t : House) (other pin bytes : List ℕ) (h : List Entry) → encode_lower other ≡ encode_lower pin
+    → IsJournal t other bytes h → IsJournal t pin bytes h
+repinned t other pin _ _ same (head_alone frame m one head) = head_alone frame m one (record {
+  meaning = head.meaning;
+  number = head.number;
+  version = head.version;
+  digest = head.digest ∙ ap Some same;
+})
+repinned t other pin _ _ same (group_more bytes entries frame h new m journal says one seal) =
+    group_more bytes entries frame h new m (repinned t other pin bytes h same journal) says one seal
+
+-- so of two journals at the front of the same bytes both are of one house file
+pub one_pin : (t : House) (other pin journal bytes : List ℕ) (k h : List Entry) → IsJournal t other journal k
+    → IsJournal t pin bytes h → (more rest : List ℕ) → journal ++ more ≡ bytes ++ rest → IsJournal t pin journal k
+one_pin t other pin journal bytes k h is here more rest whole =
+    let one = headed t other journal k is more in
+    let two = headed t pin bytes h here rest in
+    let same = fronts (bytes ++ rest) (Whole one.0 one.1) (Whole two.0 two.1)
+    (subst (λ (b : List ℕ). IsFrontOf b (Whole one.0 one.1)) whole one.3) two.3 in
+    let message : one.0 ≡ two.0 = cc in
+    let digest : value_of tag.text two.0 ≡ Some (encode_lower other) =
+    subst (λ (m : Message). value_of tag.text m ≡ Some (encode_lower other)) message one.2.digest in
+    let text : encode_lower other ≡ encode_lower pin = inj_some (sym digest ∙ two.2.digest) in
+    repinned t other pin journal k text is
   where
-    zero : Broken at ≡ Broken 0 → at ≡ 0
-    zero e = cc
+    inj_some : {a b : List ℕ} → Some a ≡ Some b → a ≡ b
+    inj_some e = cc
 
 -- a frame that is taken next
-record Next (t : House) (pin taken : List ℕ) (s : Stand) (h : List Entry) (rest : List ℕ) : Type 0 where
+record Next (t : House) (pin : List ℕ) (all : List Entry) (taken : List ℕ) (s : Stand) (h : List Entry)
+    (rest : List ℕ) : Type 0 where
   frame : List ℕ
   later : List ℕ
   m : Message
@@ -191,13 +227,19 @@ record Next (t : House) (pin taken : List ℕ) (s : Stand) (h : List Entry) (res
   parts : rest ≡ frame ++ later
   one : IsOneFrame frame m
   takes : Takes t pin taken s h m next new
-  leads : Leads t pin (taken ++ frame) next new later
+  leads : Leads t pin all (taken ++ frame) next new later
+
+-- nothing is left
+pub record Ends (all : List Entry) (s : Stand) (h : List Entry) (rest : List ℕ) : Type 0 where
+  pub none : rest ≡ []
+  pub stands : s ≡ Sealed
+  pub said : h ≡ all
 
 -- nothing is left, or a frame
-opened : (t : House) (pin taken : List ℕ) (s : Stand) (h : List Entry) (rest : List ℕ) → Leads t pin taken s h rest
-    → ((rest ≡ []) × (s ≡ Sealed)) ⊎ Next t pin taken s h rest
-opened t pin _ _ _ _ (leads_end taken h) = inl (refl, refl)
-opened t pin _ _ _ _ (leads_on taken frame rest s next h new m one takes leads) =
+opened : (t : House) (pin : List ℕ) (all : List Entry) (taken : List ℕ) (s : Stand) (h : List Entry) (rest : List ℕ)
+    → Leads t pin all taken s h rest → Ends all s h rest ⊎ Next t pin all taken s h rest
+opened t pin all _ _ _ _ (leads_end taken) = inl (record { none = refl; stands = refl; said = refl })
+opened t pin all _ _ _ _ (leads_on taken frame rest s next h new m one takes leads) =
     inr (record {
       frame = frame;
       later = rest;
@@ -206,201 +248,379 @@ opened t pin _ _ _ _ (leads_on taken frame rest s next h new m one takes leads) 
       new = new;
       parts = refl;
       one = one;
-      takes =
-          takes;
+      takes = takes;
       leads = leads;
     })
 
-module _ (t : House) (pin taken : List ℕ) (s : Stand) (h : List Entry) (rest bytes more later : List ℕ)
-    (leads : Leads t pin taken s h rest)
-    (is : rest ++ 10 ∷ more ≡ bytes ++ later) where
-  -- the front of what is there, by what is left
-  gate_there : rest ≡ [] → IsFrontOf (bytes ++ later) (Broken 0)
-  gate_there none = subst (λ (b : List ℕ). IsFrontOf b (Broken 0)) (ap (λ (r : List ℕ). r ++ 10 ∷ more) (sym none)
-      ∙ is) (gate_front more)
+-- a frame of so many bytes, which has this message, was taken from the front of these bytes
+pub record Stepped (t : House) (pin : List ℕ) (all : List Entry) (taken : List ℕ) (s : Stand) (h : List Entry)
+    (m : Message) (len : ℕ) (old bytes later more : List ℕ) : Type 0 where
+  pub next : Stand
+  pub new : List Entry
+  pub rest : List ℕ
+  pub takes : Takes t pin taken s h m next new
+  pub leads : Leads t pin all (taken ++ take len bytes) next new rest
+  pub cut : old ≡ take len bytes ++ rest
+  pub left : rest ++ more ≡ drop len bytes ++ later
 
+module _ (t : House) (pin : List ℕ) (all : List Entry) (taken : List ℕ) (s : Stand) (h : List Entry)
+    (rest bytes more later : List ℕ) (leads : Leads t pin all taken s h rest) (is : rest ++ more ≡ bytes ++ later) where
   -- the frame that is taken next stands there
-  frame_there : (n : Next t pin taken s h rest) → IsFrontOf (bytes ++ later) (Whole n.m (length n.frame))
+  frame_there : (n : Next t pin all taken s h rest) → IsFrontOf (bytes ++ later) (Whole n.m (length n.frame))
   frame_there n =
       subst (λ (b : List ℕ). IsFrontOf b (Whole n.m (length n.frame)))
-      (sym (append_assoc n.frame n.later (10 ∷ more)) ∙ ap (λ (r : List ℕ). r ++ 10 ∷ more) (sym n.parts) ∙ is)
-      (frame_front n.frame (n.later ++ 10 ∷ more) n.m n.one)
+      (sym (append_assoc n.frame n.later more) ∙ ap (λ (r : List ℕ). r ++ more) (sym n.parts) ∙ is)
+      (frame_front n.frame (n.later ++ more) n.m n.one)
 
-  -- nothing else stands at the front
-  pub no_other : (x : Front) → IsFrontOf (bytes ++ later) x → ((m : Message) (len : ℕ) → x ≡ Whole m len → ⊥)
-      → (x ≡ Broken 0 → ⊥) → ⊥
-  no_other x there no_frame no_gate = elim (opened t pin taken s h rest leads) [
-    | inl none ↦ no_gate (fronts (bytes ++ later) x (Broken 0) there (gate_there none.0))
-    | inr n ↦ no_frame n.m (length n.frame) (fronts (bytes ++ later) x (Whole n.m (length n.frame)) there
-        (frame_there n))
-  ]
-
-  pub no_garbled : (len : ℕ) → IsFrontOf bytes (Garbled len) → ⊥
-  no_garbled len front = no_other (Garbled len) (begins_stays bytes later (record { fields = None; len = len }) front)
-      (λ m n e. cc) (λ e. cc)
-
-  pub broken_gate : (at : ℕ) → IsFrontOf bytes (Broken at) → (at ≡ 0 → slice_index bytes 0 ≡ 10 → ⊥) → ⊥
-  broken_gate at front no_gate = elim (opened t pin taken s h rest leads) [
-    | inr n ↦ absurd (apart (fronts (bytes ++ later) (Broken at) (Whole n.m (length n.frame))
-        (broken_stays bytes later at front) (frame_there n)))
-    | inl none ↦
-        let zero = broken_zero (fronts (bytes ++ later) (Broken at) (Broken 0) (broken_stays bytes later at front)
-        (gate_there none.0)) in
-        no_gate zero (first_ten bytes (omega (arith, front.within)) (ap (λ (r : List ℕ). r ++ 10 ∷ more) (sym none.0)
-        ∙ is))
-  ]
-    where
-      apart : {m : Message} {n : ℕ} → Broken at ≡ Whole m n → ⊥
-      apart e = cc
-
-      broken_zero : Broken at ≡ Broken 0 → at ≡ 0
-      broken_zero e = cc
-
-      first_ten : (b : List ℕ) → 0 < length b → 10 ∷ more ≡ b ++ later → slice_index b 0 ≡ 10
-      first_ten [] some e = absurd (omega (arith, some))
-      first_ten (x ∷ b) some e = cc
-
-  -- and where these are all that there is, they don't only begin a frame
-  pub no_begun : later ≡ [] → IsFront bytes → ⊥
-  no_begun none front =
-      no_other Partial (subst (λ (l : List ℕ). IsFront l) (sym (append-nil bytes)
-      ∙ ap (λ (l : List ℕ). bytes ++ l) (sym none)) front) (λ m n e. cc) (λ e. cc)
-
-  -- and where the gate stands there nothing is left
-  pub at_gate : (behind : List ℕ) → bytes ≡ 10 ∷ behind → s ≡ Sealed
-  at_gate behind gate = elim (opened t pin taken s h rest leads) [
-    | inl none ↦ none.1
+  -- a frame that stands there is the one that is taken next, where anything is left
+  pub step : (m : Message) (len : ℕ) → IsFrontOf bytes (Whole m len)
+      → Ends all s h rest ⊎ Stepped t pin all taken s h m len rest bytes later more
+  step m len front = elim (opened t pin all taken s h rest leads) [
+    | inl none ↦ inl none
     | inr n ↦
-        absurd (apart (fronts (bytes ++ later) (Broken 0) (Whole n.m (length n.frame))
-        (subst (λ (b : List ℕ). IsFrontOf (b ++ later) (Broken 0)) (sym gate) (gate_front (behind ++ later)))
-        (frame_there n)))
-  ]
-    where
-      apart : {m : Message} {n : ℕ} → Broken 0 ≡ Whole m n → ⊥
-      apart e = cc
-
-  -- a frame that stands there is the one that is taken next
-  pub step : (m : Message) (len : ℕ) → IsFrontOf bytes (Whole m len) → Stepped t pin taken s h m len bytes later more
-  step m len front = elim (opened t pin taken s h rest leads) [
-    | inl none ↦ absurd (apart (fronts (bytes ++ later) (Whole m len) (Broken 0) there (gate_there none.0)))
-    | inr n ↦
+        let there : IsFrontOf (bytes ++ later) (Whole m len) =
+        begins_stays bytes later (record { fields = Some m; len = len }) front in
         let same = fronts (bytes ++ later) (Whole m len) (Whole n.m (length n.frame)) there (frame_there n) in
         let message : m ≡ n.m = cc in
         let size : len ≡ length n.frame = cc in
-        let all : n.frame ++ (n.later ++ 10 ∷ more) ≡ bytes ++ later =
-        sym (append_assoc n.frame n.later (10 ∷ more)) ∙ ap (λ (r : List ℕ). r ++ 10 ∷ more) (sym n.parts) ∙ is in
+        let whole : n.frame ++ (n.later ++ more) ≡ bytes ++ later =
+        sym (append_assoc n.frame n.later more) ∙ ap (λ (r : List ℕ). r ++ more) (sym n.parts) ∙ is in
         let here : n.frame ≡ take len bytes =
-        sym (take_at n.frame (n.later ++ 10 ∷ more) len (sym size)) ∙ ap (take len) all
+        sym (take_at n.frame (n.later ++ more) len (sym size)) ∙ ap (take len) whole
         ∙ take-append-le len bytes later front.1.within in
-        record {
+        inr (record {
           next = n.next;
           new = n.new;
           rest = n.later;
           takes = subst (λ (x : Message). Takes t pin taken s h x n.next n.new) (sym message) n.takes;
-          leads = subst (λ (f : List ℕ). Leads t pin (taken ++ f) n.next n.new n.later) here n.leads;
-          left = sym (drop_at n.frame (n.later ++ 10 ∷ more) len (sym size)) ∙ ap (drop len) all
+          leads = subst (λ (f : List ℕ). Leads t pin all (taken ++ f) n.next n.new n.later) here n.leads;
+          cut = n.parts ∙ ap (λ (f : List ℕ). f ++ n.later) here;
+          left = sym (drop_at n.frame (n.later ++ more) len (sym size)) ∙ ap (drop len) whole
               ∙ drop-append-le len bytes later front.1.within;
-        }
+        })
   ]
-    where
-      there : IsFrontOf (bytes ++ later) (Whole m len)
-      there = begins_stays bytes later (record { fields = Some m; len = len }) front
 
-      apart : Whole m len ≡ Broken 0 → ⊥
-      apart e = cc
+-- of a journal that goes on to the end of what is there, or further
+module _ (t : House) (pin : List ℕ) (all : List Entry) (taken : List ℕ) (s : Stand) (h : List Entry)
+    (rest bytes later : List ℕ) (leads : Leads t pin all taken s h rest) (is : rest ++ [] ≡ bytes ++ later) where
+  some_left : rest ≡ [] → 0 < length bytes → ⊥
+  some_left none some = absurd (omega (
+    arith,
+    some,
+    ap length is,
+    ap length none,
+    length-append rest [],
+    length-append bytes later,
+  ))
+
+  no_other : (x : Front) → IsFrontOf (bytes ++ later) x → 0 < length bytes
+      → ((m : Message) (len : ℕ) → x ≡ Whole m len → ⊥) → ⊥
+  no_other x there some no_frame = elim (opened t pin all taken s h rest leads) [
+    | inl none ↦ some_left none.none some
+    | inr n ↦ no_frame n.m (length n.frame) (fronts (bytes ++ later) x (Whole n.m (length n.frame)) there
+        (frame_there t pin all taken s h rest bytes [] later leads is n))
+  ]
+
+  pub no_garbled : (len : ℕ) → IsFrontOf bytes (Garbled len) → ⊥
+  no_garbled len front =
+      let size = garbled_len bytes len front in
+      no_other (Garbled len) (begins_stays bytes later (record { fields = None; len = len }) front)
+      (omega (arith, size.0, size.1)) (λ m n e. cc)
+
+  pub no_broken : (at : ℕ) → IsFrontOf bytes (Broken at) → ⊥
+  no_broken at front = no_other (Broken at) (broken_stays bytes later at front) (omega (arith, front.within))
+      (λ m n e. cc)
+
+  pub step_on : (m : Message) (len : ℕ) → IsFrontOf bytes (Whole m len)
+      → Stepped t pin all taken s h m len rest bytes later []
+  step_on m len front = elim (step t pin all taken s h rest bytes [] later leads is m len front) [
+    | inl none ↦
+        let size = front_frame bytes m len front in absurd (some_left none.none (omega (arith, size.0, size.1)))
+    | inr one ↦ one
+  ]
 
 -- ---- what is left of a journal behind the bytes that were taken
 
--- a shut gate and more stand behind it
-pub record LeftOf (t : House) (pin taken : List ℕ) (s : Stand) (h : List Entry) (rest more : List ℕ) : Type 0 where
+-- what is left, and these bytes, are what is there, and these
+pub record LeftOf (t : House) (pin : List ℕ) (all : List Entry) (journal taken : List ℕ) (s : Stand) (h : List Entry)
+    (rest more later : List ℕ) : Type 0 where
   pub left : List ℕ
-  pub leads : Leads t pin taken s h left
-  pub parts : left ++ 10 ∷ more ≡ rest ++ []
+  pub leads : Leads t pin all taken s h left
+  pub whole : journal ≡ taken ++ left
+  pub parts : left ++ more ≡ rest ++ later
 
--- where a frame is taken
-left_step : (t : House) (pin taken frame rest more : List ℕ) (s next : Stand) (h new : List Entry) (m : Message)
-    → IsOneFrame frame m → Takes t pin taken s h m next new → LeftOf t pin taken s h (frame ++ rest) more
-    → LeftOf t pin (taken ++ frame) next new rest more
-left_step t pin taken frame rest more s next h new m one takes l =
-    let all = step t pin taken s h l.left (frame ++ rest) more [] l.leads l.parts m (length frame)
-    (frame_front frame rest m one) in
-    let same = takes_one t pin taken s all.next next h all.new new m all.takes takes in
-    let here : take (length frame) (frame ++ rest) ≡ frame = take_at frame rest (length frame) refl in
-    record {
-      left = all.rest;
-      leads = subst (λ (k : List Entry). Leads t pin (taken ++ frame) next k all.rest) same.1
-          (subst (λ (x : Stand). Leads t pin (taken ++ frame) x all.new all.rest) same.0
-          (subst (λ (f : List ℕ). Leads t pin (taken ++ f) all.next all.new all.rest) here all.leads));
-      parts = all.left ∙ ap (λ (l : List ℕ). l ++ []) (drop_at frame rest (length frame) refl);
-    }
+-- the journal ends there
+pub record EndsAt (all : List Entry) (journal taken : List ℕ) (s : Stand) (h : List Entry) : Type 0 where
+  pub stands : s ≡ Sealed
+  pub whole : journal ≡ taken
+  pub said : h ≡ all
 
--- behind what says entries
-record LeftOn (t : House) (pin bytes entries : List ℕ) (h : List Entry) (rest more : List ℕ) : Type 0 where
-  stand : Stand
-  behind : stand ≢ Fresh
-  unsealed : 0 < length entries → stand ≡ Unsealed
-  left_of : LeftOf t pin (bytes ++ entries) stand h rest more
+-- the journal ends within these bytes, and what they say begins with it
+pub record Nested (all : List Entry) (journal bytes : List ℕ) (h : List Entry) : Type 0 where
+  pub within : StillHas journal bytes
+  pub begins : BeginsBy h all
 
--- entry by entry, and then the whole journal
-left_says : (t : House) (pin bytes : List ℕ) (h : List Entry) (entries : List ℕ) (new : List Entry)
-    → Says t h entries new → (rest more : List ℕ) → LeftOf t pin bytes Sealed h (entries ++ rest) more
-    → LeftOn t pin bytes entries new rest more
-left_says t pin bytes h _ _ says_none rest more l = record {
-  stand = Sealed;
-  behind = sealed_behind;
-  unsealed = λ some. absurd (omega (arith, some));
-  left_of = subst (λ (b : List ℕ). LeftOf t pin b Sealed h rest more) (sym (append-nil bytes)) l;
-}
-left_says t pin bytes h _ _ (says_next entries frame new e m says one next) rest more l =
-    let before = left_says t pin bytes h entries new says (frame ++ rest) more
-    (subst (λ (r : List ℕ). LeftOf t pin bytes Sealed h r more) (append_assoc entries frame rest) l) in
-    let takes = takes_next t pin (bytes ++ entries) before.stand new (new ++ e ∷ []) m before.behind (e, next, refl) in
-    record {
-      stand = Unsealed;
-      behind = unsealed_behind;
-      unsealed = λ some. refl;
-      left_of = subst (λ (b : List ℕ). LeftOf t pin b Unsealed (new ++ e ∷ []) rest more)
-          (append_assoc bytes entries frame)
-          (left_step t pin (bytes ++ entries) frame rest more before.stand Unsealed new (new ++ e ∷ []) m one takes
-          before.left_of);
-    }
+module _ (t : House) (pin : List ℕ) (all : List Entry) (journal more later : List ℕ) where
+  -- where a frame is taken
+  left_step : (taken frame rest : List ℕ) (s next : Stand) (h new : List Entry) (m : Message)
+      → IsOneFrame frame m → Takes t pin taken s h m next new
+      → LeftOf t pin all journal taken s h (frame ++ rest) more later
+      → EndsAt all journal taken s h ⊎ LeftOf t pin all journal (taken ++ frame) next new rest more later
+  left_step taken frame rest s next h new m one takes l =
+      elim (step t pin all taken s h l.left (frame ++ rest) more later l.leads l.parts m (length frame)
+      (frame_front frame rest m one)) [
+        | inl e ↦ inl (record {
+          stands = e.stands;
+          whole = l.whole ∙ ap (λ (b : List ℕ). taken ++ b) e.none ∙ append-nil taken;
+          said = e.said;
+        })
+        | inr st ↦
+            let same = takes_one t pin taken s st.next next h st.new new m st.takes takes in
+            let here : take (length frame) (frame ++ rest) ≡ frame = take_at frame rest (length frame) refl in
+            let behind : drop (length frame) (frame ++ rest) ≡ rest = drop_at frame rest (length frame) refl in
+            let cut : l.left ≡ frame ++ st.rest = st.cut ∙ ap (λ (f : List ℕ). f ++ st.rest) here in
+            inr (record {
+              left = st.rest;
+              leads = subst (λ (k : List Entry). Leads t pin all (taken ++ frame) next k st.rest) same.1
+                  (subst (λ (x : Stand). Leads t pin all (taken ++ frame) x st.new st.rest) same.0
+                  (subst (λ (f : List ℕ). Leads t pin all (taken ++ f) st.next st.new st.rest) here st.leads));
+              whole = l.whole ∙ ap (λ (b : List ℕ). taken ++ b) cut ∙ sym (append_assoc taken frame st.rest);
+              parts = st.left ∙ ap (λ (x : List ℕ). x ++ later) behind;
+            })
+      ]
 
-left_journal : (t : House) (pin bytes : List ℕ) (h : List Entry) → IsJournal t pin bytes h → (rest more : List ℕ)
-    → LeftOf t pin [] Fresh (opening_history t) (bytes ++ rest) more → LeftOf t pin bytes Sealed h rest more
-left_journal t pin _ _ (head_alone frame m one head) rest more l =
-    left_step t pin [] frame rest more Fresh Sealed (opening_history t) (opening_history t) m one ((λ is. head), refl) l
-left_journal t pin _ _ (group_more bytes entries frame h new m journal says one seal) rest more l =
-    let before = left_journal t pin bytes h journal (entries ++ (frame ++ rest)) more
-    (subst (λ (r : List ℕ). LeftOf t pin [] Fresh (opening_history t) r more)
-    (append_assoc (bytes ++ entries) frame rest ∙ append_assoc bytes entries (frame ++ rest)) l) in
-    let on = left_says t pin bytes h entries new says (frame ++ rest) more before in
-    left_step t pin (bytes ++ entries) frame rest more on.stand Sealed new new m one
-    (takes_seal t pin (bytes ++ entries) on.stand new m on.behind seal) on.left_of
+  -- entry by entry
+  record LeftOn (bytes entries : List ℕ) (h : List Entry) (rest : List ℕ) : Type 0 where
+    stand : Stand
+    behind : stand ≢ Fresh
+    unsealed : 0 < length entries → stand ≡ Unsealed
+    left_of : LeftOf t pin all journal (bytes ++ entries) stand h rest more later
+
+  -- where it ends behind entries there are none
+  no_entries : (bytes entries rest : List ℕ) (h new : List Entry) → Says t h entries new
+      → (on : LeftOn bytes entries new rest) → EndsAt all journal (bytes ++ entries) on.stand new
+      → EndsAt all journal bytes Sealed h
+  no_entries bytes _ rest h _ says_none on e = record {
+    stands = refl;
+    whole = e.whole ∙ append-nil bytes;
+    said = e.said;
+  }
+  no_entries bytes _ rest h _ (says_next entries frame new x m says one next) on e =
+      absurd (apart (on.unsealed (omega (arith, frame_some frame m one, length-append entries frame))) e.stands)
+    where
+      apart : on.stand ≡ Unsealed → on.stand ≡ Sealed → ⊥
+      apart a b = cc
+
+  left_says : (bytes : List ℕ) (h : List Entry) (entries : List ℕ) (new : List Entry) → Says t h entries new
+      → (rest : List ℕ) → LeftOf t pin all journal bytes Sealed h (entries ++ rest) more later
+      → EndsAt all journal bytes Sealed h ⊎ LeftOn bytes entries new rest
+  left_says bytes h _ _ says_none rest l = inr (record {
+    stand = Sealed;
+    behind = sealed_behind;
+    unsealed = λ some. absurd (omega (arith, some));
+    left_of = subst (λ (b : List ℕ). LeftOf t pin all journal b Sealed h rest more later) (sym (append-nil bytes)) l;
+  })
+  left_says bytes h _ _ (says_next entries frame new e m says one next) rest l =
+      elim (left_says bytes h entries new says (frame ++ rest)
+      (subst (λ (r : List ℕ). LeftOf t pin all journal bytes Sealed h r more later)
+      (append_assoc entries frame rest) l)) [
+        | inl ends ↦ inl ends
+        | inr before ↦
+            let takes = takes_next t pin (bytes ++ entries) before.stand new (new ++ e ∷ []) m before.behind
+            (e, next, refl) in
+            elim (left_step (bytes ++ entries) frame rest before.stand Unsealed new (new ++ e ∷ []) m one takes
+            before.left_of) [
+              | inl ends ↦ inl (no_entries bytes entries (frame ++ rest) h new says before ends)
+              | inr on ↦ inr (record {
+                stand = Unsealed;
+                behind = unsealed_behind;
+                unsealed = λ some. refl;
+                left_of = subst (λ (b : List ℕ). LeftOf t pin all journal b Unsealed (new ++ e ∷ []) rest more later)
+                    (append_assoc bytes entries frame) on;
+              })
+            ]
+      ]
+
+  -- a group behind a journal
+  left_group : (bytes entries frame : List ℕ) (h new : List Entry) (m : Message) → Says t h entries new
+      → IsOneFrame frame m → IsSeal t (bytes ++ entries) new m → (rest : List ℕ)
+      → LeftOf t pin all journal bytes Sealed h (entries ++ (frame ++ rest)) more later
+      → EndsAt all journal bytes Sealed h
+      ⊎ LeftOf t pin all journal ((bytes ++ entries) ++ frame) Sealed new rest more later
+  left_group bytes entries frame h new m says one seal rest l =
+      elim (left_says bytes h entries new says (frame ++ rest) l) [
+        | inl ends ↦ inl ends
+        | inr on ↦
+            elim (left_step (bytes ++ entries) frame rest on.stand Sealed new new m one
+            (takes_seal t pin (bytes ++ entries) on.stand new m on.behind seal) on.left_of) [
+              | inl ends ↦ inl (no_entries bytes entries (frame ++ rest) h new says on ends)
+              | inr behind ↦ inr behind
+            ]
+      ]
+
+  -- a journal that ends where bytes do that say a history
+  nested_at : (bytes : List ℕ) (h : List Entry) → EndsAt all journal bytes Sealed h → Nested all journal bytes h
+  nested_at bytes h e = record {
+    within = ([], sym e.whole ∙ sym (append-nil journal));
+    begins = ([], e.said ∙ sym (append-nil all));
+  }
+
+  -- and a group more
+  nested_on : (bytes entries frame : List ℕ) (h new : List Entry) → Says t h entries new
+      → Nested all journal bytes h → Nested all journal ((bytes ++ entries) ++ frame) new
+  nested_on bytes entries frame h new says n = record {
+    within = (
+      n.within.0 ++ (entries ++ frame),
+      append_assoc bytes entries frame ∙ ap (λ (b : List ℕ). b ++ (entries ++ frame)) n.within.1
+          ∙ append_assoc journal n.within.0 (entries ++ frame),
+    );
+    begins = begins_on all h new n.begins (says_begins t h entries new says);
+  }
+
+  -- the whole journal: the other one ends before it does, or goes on
+  pub left_journal : (bytes : List ℕ) (h : List Entry) → IsJournal t pin bytes h → (rest : List ℕ)
+      → LeftOf t pin all journal [] Fresh (opening_history t) (bytes ++ rest) more later
+      → (Nested all journal bytes h × (length journal < length bytes))
+      ⊎ LeftOf t pin all journal bytes Sealed h rest more later
+  left_journal _ _ (head_alone frame m one head) rest l =
+      elim (left_step [] frame rest Fresh Sealed (opening_history t) (opening_history t) m one
+      ((λ is. head), refl) l) [
+        | inl ends ↦ absurd (sealed_behind (sym ends.stands))
+        | inr on ↦ inr on
+      ]
+  left_journal _ _ (group_more bytes entries frame h new m is says one seal) rest l =
+      let size : length bytes < length ((bytes ++ entries) ++ frame) = omega (
+        arith,
+        frame_some frame m one,
+        length-append (bytes ++ entries) frame,
+        length-append bytes entries,
+      ) in
+      elim (left_journal bytes h is (entries ++ (frame ++ rest))
+      (subst (λ (r : List ℕ). LeftOf t pin all journal [] Fresh (opening_history t) r more later)
+      (append_assoc (bytes ++ entries) frame rest ∙ append_assoc bytes entries (frame ++ rest)) l)) [
+        | inl n ↦ inl (nested_on bytes entries frame h new says n.0, omega (arith, n.1, size))
+        | inr before ↦ elim (left_group bytes entries frame h new m says one seal rest before) [
+          | inl ends ↦ inl (
+            nested_on bytes entries frame h new says (nested_at bytes h ends),
+            omega (arith, size, ap length ends.whole),
+          )
+          | inr on ↦ inr on
+        ]
+      ]
 
 -- of a journal that stands there from the front on
-pub left_of : (t : House) (pin taken : List ℕ) (s : Stand) (h : List Entry) → IsTaken t pin taken s h
-    → (before more rest : List ℕ) (all : List Entry) → IsJournal t pin before all
-    → before ++ 10 ∷ more ≡ taken ++ rest → LeftOf t pin taken s h rest more
-left_of t pin taken s h stands before more rest all journal is = go s stands
-  where
-    start : LeftOf t pin [] Fresh (opening_history t) (taken ++ rest) more
-    start = record {
-      left = before;
-      leads = from_front t pin before all journal;
-      parts = is ∙ sym (append-nil (taken ++ rest));
-    }
+first_left : (t : House) (pin journal : List ℕ) (all : List Entry) (there more later : List ℕ)
+    → IsJournal t pin journal all → journal ++ more ≡ there ++ later
+    → LeftOf t pin all journal [] Fresh (opening_history t) there more later
+first_left t pin journal all there more later is parts = record {
+  left = journal;
+  leads = from_front t pin journal all is;
+  whole = refl;
+  parts = parts;
+}
 
-    go : (s : Stand) → IsTaken t pin taken s h → LeftOf t pin taken s h rest more
-    go Fresh stands =
-        subst (λ (k : List Entry). LeftOf t pin taken Fresh k rest more) (sym stands.1)
-        (subst (λ (b : List ℕ). LeftOf t pin b Fresh (opening_history t) rest more) (sym stands.0)
-        (subst (λ (b : List ℕ). LeftOf t pin [] Fresh (opening_history t) (b ++ rest) more) stands.0 start))
-    go Sealed stands = left_journal t pin taken h stands rest more start
-    go Unsealed stands =
-        let whole = left_journal t pin stands.bytes stands.h stands.journal (stands.entries ++ rest) more
-        (subst (λ (r : List ℕ). LeftOf t pin [] Fresh (opening_history t) r more)
-        (ap (λ (b : List ℕ). b ++ rest) stands.parts ∙ append_assoc stands.bytes stands.entries rest) start) in
-        let on = left_says t pin stands.bytes stands.h stands.entries h stands.says rest more whole in
-        subst (λ (b : List ℕ). LeftOf t pin b Unsealed h rest more) (sym stands.parts)
-        (subst (λ (x : Stand). LeftOf t pin (stands.bytes ++ stands.entries) x h rest more) (on.unsealed stands.some)
-        on.left_of)
+-- the sealed part of the bytes that were taken has the other journal, which is shorter than they are
+abbrev pub NestsIn : (t : House) (pin : List ℕ) (all : List Entry) (journal taken : List ℕ) (s : Stand)
+    (h : List Entry) → IsTaken t pin taken s h → Type 0
+NestsIn t pin all journal taken Fresh h stands = ⊥
+NestsIn t pin all journal taken Sealed h stands =
+    Nested all journal taken h × (length journal < length taken)
+NestsIn t pin all journal taken Unsealed h stands =
+    Nested all journal stands.bytes stands.h × (length journal < length taken)
+
+pub left_taken : (t : House) (pin journal : List ℕ) (all : List Entry) (taken : List ℕ) (s : Stand) (h : List Entry)
+    → (stands : IsTaken t pin taken s h) → IsJournal t pin journal all → (rest more later : List ℕ)
+    → journal ++ more ≡ (taken ++ rest) ++ later
+    → NestsIn t pin all journal taken s h stands ⊎ LeftOf t pin all journal taken s h rest more later
+left_taken t pin journal all taken Fresh h stands is rest more later parts =
+    let l = first_left t pin journal all rest more later is
+    (parts ∙ ap (λ (b : List ℕ). (b ++ rest) ++ later) stands.0) in
+    inr (subst (λ (k : List Entry). LeftOf t pin all journal taken Fresh k rest more later) (sym stands.1)
+    (subst (λ (b : List ℕ). LeftOf t pin all journal b Fresh (opening_history t) rest more later) (sym stands.0) l))
+left_taken t pin journal all taken Sealed h stands is rest more later parts =
+    left_journal t pin all journal more later taken h stands rest
+    (first_left t pin journal all (taken ++ rest) more later is parts)
+left_taken t pin journal all taken Unsealed h stands is rest more later parts =
+    let front : taken ++ rest ≡ stands.bytes ++ (stands.entries ++ rest) =
+    ap (λ (b : List ℕ). b ++ rest) stands.parts ∙ append_assoc stands.bytes stands.entries rest in
+    let size : length stands.bytes < length taken =
+    omega (arith, ap length stands.parts, stands.some, length-append stands.bytes stands.entries) in
+    elim (left_journal t pin all journal more later stands.bytes stands.h stands.journal (stands.entries ++ rest)
+    (first_left t pin journal all (stands.bytes ++ (stands.entries ++ rest)) more later is
+    (parts ∙ ap (λ (b : List ℕ). b ++ later) front))) [
+      | inl n ↦ inl (n.0, omega (arith, n.1, size))
+      | inr before ↦ elim (left_says t pin all journal more later stands.bytes stands.h stands.entries h
+          stands.says rest
+          before) [
+            | inl ends ↦ inl (
+              nested_at t pin all journal more later stands.bytes stands.h ends,
+              omega (arith, size, ap length ends.whole),
+            )
+            | inr on ↦ inr (subst (λ (b : List ℕ). LeftOf t pin all journal b Unsealed h rest more later)
+                (sym stands.parts)
+                (subst (λ (x : Stand). LeftOf t pin all journal (stands.bytes ++ stands.entries) x h rest more later)
+                (on.unsealed stands.some) on.left_of))
+          ]
+    ]
+
+-- ---- which journals stand there
+
+-- A journal at the front of bytes that were taken, behind which no whole frame stands, ends within
+-- what they have sealed.
+pub longest : (t : House) (pin journal : List ℕ) (all : List Entry) (taken : List ℕ) (h : List Entry)
+    → IsJournal t pin journal all → (rest more : List ℕ) → IsFront rest → journal ++ more ≡ taken ++ rest
+    → (s : Stand) → (stands : IsTaken t pin taken s h)
+    → NestsIn t pin all journal taken s h stands ⊎ EndsAt all journal taken s h
+longest t pin journal all taken h is rest more begun parts s stands =
+    elim (left_taken t pin journal all taken s h stands is rest more [] (parts ∙ sym (append-nil (taken ++ rest)))) [
+      | inl n ↦ inl n
+      | inr l ↦ elim (opened t pin all taken s h l.left l.leads) [
+        | inl e ↦ inr (record {
+          stands = e.stands;
+          whole = l.whole ∙ ap (λ (b : List ℕ). taken ++ b) e.none ∙ append-nil taken;
+          said = e.said;
+        })
+        | inr n ↦
+            let there = frame_there t pin all taken s h l.left rest more [] l.leads l.parts n in
+            absurd (apart n.m (length n.frame) (fronts (rest ++ []) (Whole n.m (length n.frame)) Partial there
+            (subst IsFront (sym (append-nil rest)) begun)))
+      ]
+    ]
+  where
+    apart : (m : Message) (n : ℕ) → Whole m n ≡ Partial → ⊥
+    apart m n e = cc
+
+-- A journal at the front of one that has a group more than another is all of it, or ends within that.
+pub all_or_before : (t : House) (pin journal : List ℕ) (all : List Entry) (bytes group : List ℕ) (h new : List Entry)
+    → IsJournal t pin journal all → IsJournal t pin bytes h → IsGroupBehind t bytes h group new → (more : List ℕ)
+    → journal ++ more ≡ bytes ++ group
+    → Nested all journal bytes h ⊎ EndsAt all journal (bytes ++ group) Sealed new
+all_or_before t pin journal all bytes group h new is before g more parts =
+    let whole : (bytes ++ g.entries) ++ g.frame ≡ bytes ++ group =
+    append_assoc bytes g.entries g.frame ∙ ap (λ (b : List ℕ). bytes ++ b) (sym g.parts) in
+    let there : group ≡ g.entries ++ (g.frame ++ []) =
+    g.parts ∙ ap (λ (b : List ℕ). g.entries ++ b) (sym (append-nil g.frame)) in
+    elim (left_journal t pin all journal more [] bytes h before group
+    (first_left t pin journal all (bytes ++ group) more [] is (parts ∙ sym (append-nil (bytes ++ group))))) [
+      | inl n ↦ inl n.0
+      | inr l ↦ elim (left_group t pin all journal more [] bytes g.entries g.frame h new g.m g.says g.one g.seal []
+          (subst (λ (r : List ℕ). LeftOf t pin all journal bytes Sealed h r more []) there l)) [
+            | inl ends ↦ inl (nested_at t pin all journal more [] bytes h ends)
+            | inr on ↦ elim (opened t pin all ((bytes ++ g.entries) ++ g.frame) Sealed new on.left on.leads) [
+              | inl e ↦ inr (record {
+                stands = refl;
+                whole = on.whole ∙ ap (λ (b : List ℕ). ((bytes ++ g.entries) ++ g.frame) ++ b) e.none
+                    ∙ append-nil ((bytes ++ g.entries) ++ g.frame) ∙ whole;
+                said = e.said;
+              })
+              | inr n ↦ absurd (omega (
+                arith,
+                frame_some n.frame n.m n.one,
+                ap length n.parts,
+                ap length on.parts,
+                length-append on.left more,
+                length-append n.frame n.later,
+              ))
+            ]
+          ]
+    ]

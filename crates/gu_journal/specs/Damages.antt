@@ -1,20 +1,22 @@
 -- Why a file is told to be damaged, or another's: what stands in it behind the bytes that were
 -- taken from its front.
-use Rattle.std.specs.Prelude.{◌≡◌, ◌≢◌, ◌⊎◌, ◌<◌, ◌+◌, ℕ, false, List, [], ◌∷◌, ◌++◌, length, codes}
-use Rattle.std.specs.Prelude.{Some, None, Ok}
+use Rattle.std.specs.Prelude.{◌≡◌, ◌≢◌, ◌⊎◌, ◌<◌, ◌≤◌, ◌+◌, ℕ, false, List, [], ◌++◌, length, drop}
+use Rattle.std.specs.Prelude.{codes, decimal, Some, None, Ok}
 use Rattle.gu_base.specs.House.{House}
 use Rattle.gu_base.specs.declared.entry.Entry.{Entry}
 use Rattle.gu_codec.specs.Grammar.{IsFront, IsBrokenAt}
-use Rattle.gu_codec.specs.Messages.{Message, Seen, Begins, Splits, messages_in}
+use Rattle.gu_codec.specs.Messages.{Message, Begins}
 use Rattle.gu_codec.specs.Tags as tag
 use Rattle.gu_message.specs.Finding.{value_of}
 use Rattle.gu_message.specs.Meaning.{meaning_of}
 use Rattle.gu_message.specs.declared.inbound.Inbound.TheVariants as inbound
 use Rattle.hex.specs.Hex.{IsBytes, encode_lower}
-use Rattle.gu_store.specs.Store.{open_gate, shut_gate}
+use Rattle.gu_store.specs.Zeros.{counted}
+use Rattle.gu_journal.specs.Counting.{BeginsBy}
 use Rattle.gu_journal.specs.Journal.{IsNumbered}
-use Rattle.gu_journal.specs.Session.{default_cstm_appl_ver_id, form, digest_text, longest_head}
-use Rattle.gu_journal.specs.Taking.{IsPinned, SaysNext}
+use Rattle.gu_journal.specs.Session.{default_cstm_appl_ver_id, form, digest_text}
+use Rattle.gu_journal.specs.Session.{longest_beginning}
+use Rattle.gu_journal.specs.Taking.{IsPinned, SaysNext, IsTaken, IsSealedAt}
 use Rattle.gu_journal.specs.declared.damage.Cause.{Cause}
 use Rattle.gu_journal.specs.declared.damage.Cause.TheVariants as cause
 use Rattle.gu_journal.specs.declared.damage.RecoverError.{RecoverError}
@@ -32,28 +34,39 @@ HasMessage rest m = (len : ℕ) × Begins rest (record { fields = Some m; len = 
 abbrev pub HasGarbled : List ℕ → Type 0
 HasGarbled rest = (len : ℕ) × Begins rest (record { fields = None; len = len })
 
--- a shut gate
-abbrev pub HasShutGate : List ℕ → Type 0
-HasShutGate rest = (more : List ℕ) × (rest ≡ shut_gate ∷ more)
-
--- no frame: there is a first byte that none admits; and no shut gate
+-- no frame: there is a first byte that none admits
 abbrev pub HasNoFrame : List ℕ → Type 0
-HasNoFrame rest = ((at : ℕ) × IsBrokenAt rest at) × (HasShutGate rest → ⊥)
+HasNoFrame rest = (at : ℕ) × IsBrokenAt rest at
 
--- frames, of which one is a seal by its type, and a later one has a message too
-pub record HasSealedGroup (bytes : List ℕ) : Type 0 where
-  pub frames : List Seen
-  pub before : List Message
-  pub seal : Message
-  pub next : Message
-  pub split : Splits 0 bytes frames None
-  pub messages : messages_in frames ≡ before ++ seal ∷ next ∷ []
-  pub kind : value_of tag.msg_type seal ≡ Some (codes "0")
+-- a seal of another group than the one whose first entry has this number; where there is no head
+-- yet, any seal
+abbrev pub IsLaterSeal : Stand → ℕ → Message → Type 0
+IsLaterSeal Fresh first m = value_of tag.msg_type m ≡ Some (codes "0")
+IsLaterSeal _ first m =
+    (value_of tag.msg_type m ≡ Some (codes "0")) × (value_of tag.text m ≢ Some (decimal first))
 
--- a shut gate, which, were it open, would begin a sealed group and more
-abbrev pub HasShutGroup : List ℕ → Type 0
-HasShutGroup rest =
-    (more : List ℕ) × (rest ≡ shut_gate ∷ more) × HasSealedGroup (open_gate ∷ more)
+-- such a seal stands somewhere in the bytes
+abbrev pub HasLaterSeal : Stand → ℕ → List ℕ → Type 0
+HasLaterSeal stand first bytes =
+    (front later : List ℕ) × (m : Message) × (bytes ≡ front ++ later) × HasMessage later m
+    × IsLaterSeal stand first m
+
+-- the entries of the group that is on its way begin with this number
+abbrev pub IsFirst : House → List ℕ → List ℕ → Stand → List Entry → ℕ → Type 0
+IsFirst t pin taken stand h first = (at : ℕ) × IsSealedAt t pin taken stand h at first
+
+-- Frames were taken from the front of the file, and say these entries, the last of them maybe of a
+-- group without its seal. Behind them stands no seal of another group than that one.
+pub record HasNoLater (t : House) (pin file : List ℕ) (h : List Entry) : Type 0 where
+  pub taken : List ℕ
+  pub stand : Stand
+  pub all : List Entry
+  pub first : ℕ
+  pub stands : IsTaken t pin taken stand all
+  pub is_first : IsFirst t pin taken stand all first
+  pub begins : BeginsBy all h
+  pub there : (rest : List ℕ) × (counted file ≡ taken ++ rest)
+  pub none : HasLaterSeal stand first (drop (length taken) file) → ⊥
 
 -- ---- why a message isn't taken
 
@@ -112,37 +125,44 @@ pub record IsOfOther (pin : List ℕ) (m : Message) (this other : List ℕ) : Ty
 
 -- ---- the causes
 
--- Why damage is told of what is left, where bytes were taken that stand so and say this history.
-abbrev pub HasCause : House → List ℕ → List ℕ → Stand → List Entry → List ℕ → Cause → Type 0
-HasCause t pin taken stand h rest cause.Garbled = HasGarbled rest
-HasCause t pin taken stand h rest cause.NoFrame = HasNoFrame rest
-HasCause t pin taken stand h rest cause.Cut = IsFront rest
-HasCause t pin taken stand h rest cause.NoHead =
+-- Why damage is told of what is left up to the first zero, where bytes were taken that stand so and
+-- say this history, and of what stands behind from that zero on.
+abbrev pub HasCause : House → List ℕ → List ℕ → Stand → List Entry → List ℕ → List ℕ → Cause
+    → Type 0
+HasCause t pin taken stand h rest behind cause.Garbled = HasGarbled rest
+HasCause t pin taken stand h rest behind cause.NoFrame = HasNoFrame rest
+HasCause t pin taken stand h rest behind cause.Cut = IsFront rest × (behind ≡ [])
+HasCause t pin taken stand h rest behind cause.NoHead =
     (m : Message) × HasMessage rest m × IsNoHead t pin stand h m
-HasCause t pin taken stand h rest cause.OtherNumber =
+HasCause t pin taken stand h rest behind cause.OtherNumber =
     (m : Message) × HasMessage rest m × IsMisnumbered pin stand h m
-HasCause t pin taken stand h rest cause.NoEntry =
+HasCause t pin taken stand h rest behind cause.NoEntry =
     (m : Message) × HasMessage rest m × IsNoEntry t stand h m
-HasCause t pin taken stand h rest cause.OtherDigest =
+HasCause t pin taken stand h rest behind cause.OtherDigest =
     (m : Message) × HasMessage rest m × IsOtherSeal t taken stand h m
-HasCause t pin taken stand h rest cause.Unsealed = (stand ≡ Unsealed) × HasShutGate rest
-HasCause t pin taken stand h rest cause.ShutGroup = (stand ≡ Sealed) × HasShutGroup rest
-HasCause t pin taken stand h rest cause.NoBeginning =
-    (stand ≡ Fresh) × HasShutGate rest × (longest_head < length rest)
+HasCause t pin taken stand h rest behind cause.LaterGroup =
+    IsFront rest × (0 < length behind)
+    × (stand ≡ Fresh → length rest + length behind ≤ longest_beginning)
+    × ((first : ℕ) × IsFirst t pin taken stand h first × HasLaterSeal stand first (rest ++ behind))
+HasCause t pin taken stand h rest behind cause.NoBeginning =
+    IsFront rest × (0 < length behind)
+    × (stand ≡ Fresh) × (longest_beginning < length rest + length behind)
 
 -- the same of whatever is told of a file
-abbrev pub IsReason : House → List ℕ → List ℕ → Stand → List Entry → List ℕ → RecoverError → Type 0
-IsReason t pin taken stand h rest error.Memory = Unit {0}
-IsReason t pin taken stand h rest error.Moment = Unit {0}
-IsReason t pin taken stand h rest error.Full = Unit {0}
-IsReason t pin taken stand h rest (error.Disk e) = Unit {0}
-IsReason t pin taken stand h rest (error.OtherHouse this other) =
+abbrev pub IsReason : House → List ℕ → List ℕ → Stand → List Entry → List ℕ → List ℕ
+    → RecoverError → Type 0
+IsReason t pin taken stand h rest behind error.Memory = Unit {0}
+IsReason t pin taken stand h rest behind error.Moment = Unit {0}
+IsReason t pin taken stand h rest behind error.Full = Unit {0}
+IsReason t pin taken stand h rest behind (error.Disk e) = Unit {0}
+IsReason t pin taken stand h rest behind (error.OtherHouse this other) =
     (m : Message) × HasMessage rest m × (stand ≡ Fresh) × IsOfOther pin m this.bytes other.bytes
-IsReason t pin taken stand h rest error.OtherForm =
+IsReason t pin taken stand h rest behind error.OtherForm =
     (m : Message) × HasMessage rest m × (stand ≡ Fresh) × HasOtherForm m
-IsReason t pin taken stand h rest (error.Damaged d) = HasCause t pin taken stand h rest d.cause
+IsReason t pin taken stand h rest behind (error.Damaged d) =
+    HasCause t pin taken stand h rest behind d.cause
 
--- ---- while a message is looked at, and what stands behind a shut gate
+-- ---- while a message is looked at, and what stands behind what counts
 
 -- what is told of it is why it isn't taken
 abbrev pub IsUntaken : House → List ℕ → List ℕ → Stand → List Entry → Message → Cause → Type 0
@@ -190,15 +210,18 @@ lack_of Fresh = cause.NoHead
 lack_of Sealed = cause.NoEntry
 lack_of Unsealed = cause.NoEntry
 
--- what is told of a file of so many bytes at a shut gate, behind which these bytes stand
-abbrev pub IsBadRest : Stand → ℕ → List ℕ → RecoverError → Type 0
-IsBadRest stand size more error.Memory = Unit {0}
-IsBadRest stand size more error.Moment = Unit {0}
-IsBadRest stand size more error.Full = Unit {0}
-IsBadRest stand size more (error.Disk e) = Unit {0}
-IsBadRest stand size more (error.OtherHouse this other) = ⊥
-IsBadRest stand size more error.OtherForm = ⊥
-IsBadRest stand size more (error.Damaged d) =
-    ((d.cause ≡ cause.Unsealed) × (stand ≡ Unsealed))
-    ⊎ (((d.cause ≡ cause.NoBeginning) × (stand ≡ Fresh) × (longest_head < size))
-    ⊎ ((d.cause ≡ cause.ShutGroup) × (stand ≡ Sealed) × HasSealedGroup (open_gate ∷ more)))
+-- what is told of a file of so many bytes, of which no more count from this place on, where these
+-- bytes weren't taken
+abbrev pub IsBadRest : Stand → ℕ → ℕ → ℕ → List ℕ → RecoverError → Type 0
+IsBadRest stand first from size left error.Memory = Unit {0}
+IsBadRest stand first from size left error.Moment = Unit {0}
+IsBadRest stand first from size left error.Full = Unit {0}
+IsBadRest stand first from size left (error.Disk e) = Unit {0}
+IsBadRest stand first from size left (error.OtherHouse this other) = ⊥
+IsBadRest stand first from size left error.OtherForm = ⊥
+IsBadRest stand first from size left (error.Damaged d) =
+    ((d.cause ≡ cause.Cut) × (size ≤ from))
+    ⊎ (((d.cause ≡ cause.NoBeginning) × (from < size) × (stand ≡ Fresh)
+    × (longest_beginning < size))
+    ⊎ ((d.cause ≡ cause.LaterGroup) × (from < size)
+    × (stand ≡ Fresh → size ≤ longest_beginning) × HasLaterSeal stand first left))

@@ -1,9 +1,9 @@
 -- What a `Journal` keeps.
-use Rattle.std.specs.Prelude.{◌≡◌, ℕ, ◌+◌, List, ◌++◌, length}
+use Rattle.std.specs.Prelude.{◌≡◌, ℕ, ◌+◌, List, length}
 use Rattle.gu_base.specs.House.{House}
 use Rattle.gu_base.specs.declared.entry.Entry.{Entry}
 use Rattle.gu_store.specs.Store as store
-use Rattle.gu_store.specs.Store.{IsAtRest, IsStaged, frames_in}
+use Rattle.gu_store.specs.Store.{IsAtRest}
 use Rattle.sha2.specs.Hashers.{Holds512}
 use Rattle.gu_journal.specs.Journal.{IsJournal}
 use Rattle.gu_journal.specs.declared.journal.Journal.{Journal}
@@ -11,14 +11,6 @@ use Rattle.gu_journal.specs.declared.journal.Journal.{Journal}
 -- the disk of its file
 abbrev pub disk_of : {D : Type 0} → Journal D → D
 disk_of journal = store.disk_of journal.store
-
--- no group is staged
-abbrev pub IsIdle : {D : Type 0} → Journal D → Type 0
-IsIdle journal = store.IsIdle journal.store
-
--- a group is staged
-abbrev pub HasStaged : {D : Type 0} → Journal D → Type 0
-HasStaged journal = store.HasStaged journal.store
 
 -- All of the file is on the disk. What counts of it is a journal of this house with this history,
 -- whose next entry has the next number. The hasher holds what counts.
@@ -30,17 +22,3 @@ pub record Keeps {D : Type 0} (seen : D → List ℕ) (may_leave : D → List �
   pub house : journal.house ≡ t.house
   pub next : journal.next ≡ length h + 1
   pub hashed : Holds512 journal.hasher bytes
-
--- All of the file is on the disk. What counts of it is a journal of this house with this history;
--- together with the group that is staged, with the new one, whose next entry has the next number.
--- The hasher holds the group too.
-pub record Stages {D : Type 0} (seen : D → List ℕ) (may_leave : D → List ℕ → Type 0)
-    (t : House) (pin : List ℕ) (h new : List Entry) (journal : Journal D) : Type 0 where
-  pub bytes : List ℕ
-  pub group : List ℕ
-  pub file : IsStaged seen may_leave journal.store bytes group
-  pub is_journal : IsJournal t pin bytes h
-  pub with_group : IsJournal t pin (bytes ++ frames_in group) new
-  pub house : journal.house ≡ t.house
-  pub next : journal.next ≡ length new + 1
-  pub hashed : Holds512 journal.hasher (bytes ++ frames_in group)

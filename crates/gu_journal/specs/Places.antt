@@ -2,6 +2,7 @@
 use Rattle.std.specs.Prelude.{◌≡◌, ℕ, ◌+◌, Bool, IsTrue, List, ◌++◌, length}
 use Rattle.gu_base.specs.House.{House}
 use Rattle.gu_base.specs.declared.entry.Entry.{Entry}
+use Rattle.gu_store.specs.Zeros.{counted}
 use Rattle.gu_journal.specs.Damages.{IsReason}
 use Rattle.gu_journal.specs.Taking.{IsTaken, IsTold}
 use Rattle.gu_journal.specs.declared.damage.RecoverError.{RecoverError}
@@ -18,10 +19,10 @@ IsAt at entry (error.OtherHouse file journal) = Unit {0}
 IsAt at entry error.OtherForm = Unit {0}
 IsAt at entry (error.Damaged d) = (d.at ≡ at) × (d.entry ≡ entry)
 
--- What is told of a file is told of what stands in it behind bytes that were taken as those of a
--- journal, of one with a group that isn't sealed yet, or of none. They are at the front of the
--- file, where the disk has given no wrong answer. The entry is the next one after those that they
--- say.
+-- What is told of a file is told of what stands in it, up to its first zero, behind bytes that were
+-- taken as those of a journal, of one with a group that isn't sealed yet, or of none; and of what
+-- stands from that zero on. They are at the front of the file, where the disk has given no wrong
+-- answer. The entry is the next one after those that they say.
 pub record IsToldOf (is_clean : Bool) (file : List ℕ) (t : House) (pin : List ℕ) (e : RecoverError)
     : Type 0 where
   pub taken : List ℕ
@@ -30,7 +31,8 @@ pub record IsToldOf (is_clean : Bool) (file : List ℕ) (t : House) (pin : List 
   pub stands : IsTaken t pin taken stand h
   pub place : IsAt (length taken) (length h + 1) e
   pub reason : IsTrue is_clean
-      → (rest : List ℕ) × (file ≡ taken ++ rest) × IsReason t pin taken stand h rest e
+      → (rest behind : List ℕ) × (counted file ≡ taken ++ rest)
+      × (file ≡ counted file ++ behind) × IsReason t pin taken stand h rest behind e
 
 -- what is told is told where it is, and why
 abbrev pub NamesCause : Bool → List ℕ → House → List ℕ → RecoverError → Type 0

@@ -1,5 +1,5 @@
 -- The messages of the session in a journal, which give nothing to a history.
-use Rattle.std.specs.Prelude.{ℕ, List, [], ◌∷◌, ◌++◌, codes, None}
+use Rattle.std.specs.Prelude.{ℕ, ◌+◌, ◌^◌, List, [], ◌∷◌, ◌++◌, codes, decimal, None}
 use Rattle.gu_codec.specs.Messages.{Message}
 use Rattle.gu_codec.specs.Tags as tag
 use Rattle.gu_codec.specs.Writing.{header_pairs}
@@ -12,12 +12,16 @@ default_cstm_appl_ver_id = 1408
 
 -- the one form of a journal that is written and read
 abbrev pub form : List ℕ
-form = codes "allocd-journal-2"
+form = codes "allocd-journal-3"
 
--- The most bytes that a head has with the gate behind it: 153 beside two names of 16, a number of 7
--- digits and a moment of 24, and the gate.
+-- The most bytes of a head: 153 beside two names of 16, a number of 7 digits and a moment of 24.
 abbrev pub longest_head : ℕ
-longest_head = 217
+longest_head = 216
+
+-- The most bytes of a file whose head is on its way: the head, a zero behind it, one that is laid
+-- beside, and the 2^20 that are laid at once.
+abbrev pub longest_beginning : ℕ
+longest_beginning = longest_head + 2 + 2 ^ 20
 
 -- the SHA-512 of some bytes, as 128 hex digits in lower case
 abbrev pub digest_text : List ℕ → List ℕ
@@ -47,12 +51,13 @@ abbrev pub head_of : List ℕ → List ℕ → ℕ → List ℕ → Message
 head_of house moment number pin =
     own_header (codes "A") house moment number ++ head_fields pin
 
--- A seal: a Heartbeat (0) of the house to itself at a moment, with the number of the next entry,
--- and a digest in TestReqID (112).
-abbrev pub seal_with : List ℕ → List ℕ → ℕ → List ℕ → Message
-seal_with house moment number digest =
-    own_header (codes "0") house moment number ++ (tag.test_req_id, encode_lower digest) ∷ []
+-- A seal: a Heartbeat (0) of the house to itself at a moment, with the number of the next entry, a
+-- digest in TestReqID (112), and in Text (58) the number of the first entry of its group.
+abbrev pub seal_with : List ℕ → List ℕ → ℕ → List ℕ → ℕ → Message
+seal_with house moment number digest first =
+    own_header (codes "0") house moment number
+    ++ (tag.test_req_id, encode_lower digest) ∷ (tag.text, decimal first) ∷ []
 
 -- the seal of these bytes
-abbrev pub seal_of : List ℕ → List ℕ → ℕ → List ℕ → Message
-seal_of house moment number bytes = seal_with house moment number (sha512 bytes)
+abbrev pub seal_of : List ℕ → List ℕ → ℕ → List ℕ → ℕ → Message
+seal_of house moment number bytes first = seal_with house moment number (sha512 bytes) first

@@ -14,13 +14,13 @@ use Rattle.gu_message.specs.declared.inbound.Inbound.TheVariants as inbound
 use Rattle.hex.specs.Hex.{encode_lower}
 use Rattle.gu_journal.specs.Journal.{IsHead, IsNext, IsSeal, Says, IsJournal}
 use Rattle.gu_journal.specs.Session.{default_cstm_appl_ver_id, form}
-use Rattle.gu_journal.specs.declared.damage.Cause.TheVariants.{ShutGroup}
+use Rattle.gu_journal.specs.declared.damage.Cause.TheVariants.{LaterGroup}
 use Rattle.gu_journal.specs.declared.damage.RecoverError.{RecoverError}
 use Rattle.gu_journal.specs.declared.damage.RecoverError.TheVariants as error
 use Rattle.gu_journal.specs.declared.replay.Stand.{Stand}
 use Rattle.gu_journal.specs.declared.replay.Stand.TheVariants.{Fresh, Sealed, Unsealed}
 
--- The file is refused for what stands at its front. A shut group stands behind it.
+-- The file is refused for what stands at its front. A later group stands behind it.
 abbrev pub IsFault : RecoverError → Type 0
 IsFault error.Memory = ⊥
 IsFault error.Moment = ⊥
@@ -28,7 +28,7 @@ IsFault error.Full = ⊥
 IsFault (error.Disk e) = ⊥
 IsFault (error.OtherHouse file journal) = Unit {0}
 IsFault error.OtherForm = Unit {0}
-IsFault (error.Damaged d) = d.cause ≢ ShutGroup
+IsFault (error.Damaged d) = d.cause ≢ LaterGroup
 
 -- the file is refused for what it says
 abbrev pub IsTold : RecoverError → Type 0
@@ -89,3 +89,11 @@ abbrev pub IsTaken : House → List ℕ → List ℕ → Stand → List Entry �
 IsTaken t pin taken Fresh h = (taken ≡ []) × (h ≡ opening_history t)
 IsTaken t pin taken Sealed h = IsJournal t pin taken h
 IsTaken t pin taken Unsealed h = IsOpenAt t pin taken h
+
+-- the head and the groups that are sealed have so many bytes, and the first entry behind them this
+-- number
+abbrev pub IsSealedAt : House → List ℕ → List ℕ → Stand → List Entry → ℕ → ℕ → Type 0
+IsSealedAt t pin taken Fresh h at first = at ≡ 0
+IsSealedAt t pin taken Sealed h at first = (at ≡ length taken) × (first ≡ length h + 1)
+IsSealedAt t pin taken Unsealed h at first =
+    (o : IsOpenAt t pin taken h) × (at ≡ length o.bytes) × (first ≡ length o.h + 1)

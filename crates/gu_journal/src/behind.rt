@@ -1,112 +1,137 @@
-//! What stands behind the frames of a journal's file.
+//! What stands behind what counts of a journal's file.
 
-ghost use Rattle.std.specs.Prelude.{◌≡◌, ◌≢◌, ◌≤◌, ◌<◌, ◌+◌, ◌^◌, ◌∷◌, length, drop, codes};
-ghost use Rattle.std.specs.Prelude.{Some, IsTrue, IfOk, IfErr, OnOk};
+ghost use Rattle.std.specs.Prelude.{◌≡◌, ◌≤◌, ◌<◌, ◌^◌, ◌↔◌, [], length, drop, codes, decimal};
+ghost use Rattle.std.specs.Prelude.{Some, false, IsTrue, IfOk, IfErr, OnOk};
 ghost use Rattle.gu_codec.specs.Answer.{pairs};
 ghost use Rattle.gu_codec.specs.Tags as tag;
 ghost use Rattle.gu_message.specs.Finding.{value_of};
-ghost use Rattle.gu_store.specs.Store.{open_gate};
-ghost use Rattle.gu_journal.specs.Damages.{HasSealedGroup, IsBadRest};
-ghost use Rattle.gu_journal.specs.Held.{OnlyReads, IsHeld, end_of};
+ghost use Rattle.gu_journal.specs.Damages.{IsLaterSeal, HasLaterSeal, IsBadRest};
+ghost use Rattle.gu_journal.specs.Held.{OnlyReads, end_of};
 ghost use Rattle.gu_journal.specs.Places.{IsAt};
 ghost use Rattle.gu_journal.specs.Taking.{IsTold};
-ghost use Rattle.gu_journal.specs.declared.replay.Stand.TheVariants.{Unsealed};
+ghost use Rattle.gu_journal.specs.declared.replay.Stand.TheVariants.{Fresh};
 
 use crate::damage::{Cause, RecoverError};
-use crate::replay::{FramePlace, Stand};
-use crate::session::LONGEST_HEAD;
+use crate::progress::Progress;
+use crate::replay::{FramePlace, Replay, Stand};
+use crate::session::LONGEST_BEGINNING;
 use crate::window::Window;
 use gu_codec::{Fields, Frame, tags};
 use gu_message::{Index, SLOTS, Slot, msg_types, walk};
+use itoa::Buffer;
 use sqlite_disk::Disk;
 
-/// The byte of a gate that is open.
-const OPEN: u8 = b'8';
+/// Whether a message is a seal, by its type alone.
+fn is_seal(message: &Index<'_, '_>) -> bool
+    ensures { IsTrue result ↔ (value_of tag.msg_type message.now ≡ Some (codes "0")) }
+{
+    message.has_value(tags::MSG_TYPE, msg_types::HEARTBEAT)
+}
 
-/// Whether a message is the seal of a group, by its type alone.
-fn is_seal(fields: Fields<'_>) -> bool
-    ensures { IsTrue result → value_of tag.msg_type (pairs fields.entry) ≡ Some (codes "0") }
+/// Whether a seal tells of a group whose first entry has this number.
+fn begins_at(message: &Index<'_, '_>, number: u32) -> bool
+    ensures { IsTrue result ↔ (value_of tag.text message.now ≡ Some (decimal number)) }
+{
+    let mut digits = Buffer::new();
+    message.has_value(tags::TEXT, digits.format(number).as_bytes())
+}
+
+/// Whether a message is the seal of another group than the next one, whose first entry has this
+/// number. Where there is no head yet, each seal is.
+fn is_later_seal(fields: Fields<'_>, stand: Stand, number: u32) -> bool
+    ensures { IsTrue result ↔ IsLaterSeal stand number (pairs fields.entry) }
 {
     let mut slots = [Slot::none(); SLOTS];
     let walked = walk(fields, &mut slots);
-    Index::new(fields, &slots, walked).has_value(tags::MSG_TYPE, msg_types::HEARTBEAT)
+    let message = Index::new(fields, &slots, walked);
+    is_seal(&message) && (stand == Stand::Fresh || !begins_at(&message, number))
 }
 
-/// Whether a message stands behind the first seal of what a shut gate is before.
-fn has_shut_group<D: Disk>(
+/// Whether such a seal stands in the file from a place on, at any byte. So many entries stand
+/// before it.
+fn has_later_seal<D: Disk, P: Progress>(
     disk: &mut D,
     size: usize,
     window: &mut Window,
+    replay: &Replay,
+    entries: u32,
+    progress: &mut P,
 ) -> Result<bool, RecoverError>
     requires usable { IsTrue (D.Disk.is_usable disk.old) }
     requires short { size ≤ 2 ^ 60 }
-    requires gate { 0 < length window.old.bytes }
-    requires within { end_of window.old ≤ size }
-    requires held { IsTrue (D.Disk.is_clean disk.old) → IsHeld (D.Disk.seen disk.old) window.old }
+    requires size { IsTrue (D.Disk.is_clean disk.old) → size ≡ length (D.Disk.seen disk.old) }
+    requires empty { window.old.bytes ≡ [] }
+    requires within { window.old.at ≤ size }
     ensures reads { OnlyReads D.Disk.seen D.Disk.may_leave D.Disk.is_usable D.Disk.is_clean
         disk.old disk.new }
     ensures err { IfErr result (λ e. IsTold e → ⊥) }
     ensures found { IfOk result (λ found. IsTrue found → IsTrue (D.Disk.is_clean disk.new)
-        → HasSealedGroup (open_gate ∷ drop (window.old.at + 1) (D.Disk.seen disk.old))) }
+        → HasLaterSeal replay.now.stand replay.now.first
+        (drop window.old.at (D.Disk.seen disk.old))) }
+    ensures none { IfOk result (λ found. found ≡ false → IsTrue (D.Disk.is_clean disk.new)
+        → HasLaterSeal replay.now.stand replay.now.first
+        (drop window.old.at (D.Disk.seen disk.old)) → ⊥) }
 {
-    window.put_first(OPEN);
-    let mut sealed = false;
     'frames: loop {
         match window.front() {
-            Frame::Whole { fields, len } => {
-                if sealed {
+            Frame::Whole { fields, .. } => {
+                if is_later_seal(fields, replay.stand, replay.first) {
                     return Ok(true);
                 }
-                sealed = is_seal(fields);
-                window.pass(len);
+                window.pass_to_frame();
             }
-            Frame::Garbled { len } => window.pass(len),
-            Frame::Broken { .. } => return Ok(false),
+            Frame::Garbled { .. } => window.pass_to_frame(),
+            Frame::Broken { .. } => window.pass_to_frame(),
             Frame::Partial => {
-                if window.at() + window.len() >= size {
+                if window.at() + window.len() < size {
+                    window.fill(disk, size)?;
+                    progress.read(window.at() + window.len(), entries);
+                } else if window.len() == 0 {
                     return Ok(false);
+                } else {
+                    window.pass_to_frame();
                 }
-                window.fill(disk, size)?;
             }
         }
     }
 }
 
-/// Looks at what stands behind the frames: it has to be what a kill may leave.
-pub(crate) fn check_rest<D: Disk>(
+/// Looks at what wasn't taken of a file of so many bytes, of which no more count than the window
+/// has: it has to be what a crash may leave.
+pub(crate) fn check_rest<D: Disk, P: Progress>(
     disk: &mut D,
     size: usize,
     window: &mut Window,
-    stand: Stand,
+    replay: &Replay,
     place: FramePlace,
+    progress: &mut P,
 ) -> Result<(), RecoverError>
     requires usable { IsTrue (D.Disk.is_usable disk.old) }
     requires short { size ≤ 2 ^ 60 }
-    requires gate { 0 < length window.old.bytes }
+    requires size { IsTrue (D.Disk.is_clean disk.old) → size ≡ length (D.Disk.seen disk.old) }
     requires within { end_of window.old ≤ size }
-    requires held { IsTrue (D.Disk.is_clean disk.old) → IsHeld (D.Disk.seen disk.old) window.old }
+    requires front { place.at ≤ end_of window.old }
     ensures reads { OnlyReads D.Disk.seen D.Disk.may_leave D.Disk.is_usable D.Disk.is_clean
         disk.old disk.new }
-    ensures sealed { OnOk result (stand ≢ Unsealed) }
-    ensures cause { IfErr result (λ e. IsTrue (D.Disk.is_clean disk.new) → IsBadRest stand size
-        (drop (window.old.at + 1) (D.Disk.seen disk.old)) e) }
+    ensures cut { OnOk result (end_of window.old < size) }
+    ensures none { OnOk result (IsTrue (D.Disk.is_clean disk.new)
+        → HasLaterSeal replay.now.stand replay.now.first
+        (drop place.at (D.Disk.seen disk.old)) → ⊥) }
+    ensures cause { IfErr result (λ e. IsTrue (D.Disk.is_clean disk.new)
+        → IsBadRest replay.now.stand replay.now.first (end_of window.old) size
+        (drop place.at (D.Disk.seen disk.old)) e) }
     ensures place { IfErr result (λ e. IsAt place.at place.entry e) }
 {
-    match stand {
-        Stand::Unsealed => Err(place.damaged(Cause::Unsealed)),
-        Stand::Fresh => {
-            if size > LONGEST_HEAD {
-                Err(place.damaged(Cause::NoBeginning))
-            } else {
-                Ok(())
-            }
-        }
-        Stand::Sealed => {
-            if has_shut_group(disk, size, window)? {
-                Err(place.damaged(Cause::ShutGroup))
-            } else {
-                Ok(())
-            }
-        }
+    if window.at() + window.len() >= size {
+        return Err(place.damaged(Cause::Cut));
     }
+    if replay.stand == Stand::Fresh && size > LONGEST_BEGINNING {
+        return Err(place.damaged(Cause::NoBeginning));
+    }
+    window.go_to(place.at);
+    let entries = place.entry.saturating_sub(1);
+    if has_later_seal(disk, size, window, replay, entries, progress)? {
+        return Err(place.damaged(Cause::LaterGroup));
+    }
+    Ok(())
 }

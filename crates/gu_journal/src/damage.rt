@@ -44,11 +44,11 @@ pub enum Cause {
     /// The frame's checksum is wrong, or its body is no list of fields.
     #[error("the frame is garbled")]
     Garbled,
-    /// The byte begins no frame, and isn't the line feed that ends the file.
-    #[error("no frame stands here, and no line feed")]
+    /// The byte begins no frame.
+    #[error("no frame stands here")]
     NoFrame,
-    /// The file ends without its line feed: it was cut at the end of a frame or inside one.
-    #[error("the file ends without its line feed")]
+    /// No zero stands behind what counts: the file was cut at the end of a frame or inside one.
+    #[error("the file ends without a zero")]
     Cut,
     /// The first message isn't the head of a journal.
     #[error("the first message is no head of a journal")]
@@ -62,14 +62,12 @@ pub enum Cause {
     /// The digest of a seal isn't that of the bytes before it.
     #[error("the bytes before this seal aren't those that were sealed")]
     OtherDigest,
-    /// The last group has no seal.
-    #[error("the last group has no seal")]
-    Unsealed,
-    /// Behind the shut gate stands a whole group, and behind that one that counts.
-    #[error("a line feed stands before a group that was committed")]
-    ShutGroup,
+    /// Behind the last whole frame before the first zero stands the seal of a later group than the
+    /// next one.
+    #[error("a group that was committed stands behind bytes that aren't whole")]
+    LaterGroup,
     /// The file has no head, and more bytes than a journal that is begun.
-    #[error("the file begins with a line feed, and is no journal that was begun")]
+    #[error("the file begins with no head, and is no journal that was begun")]
     NoBeginning,
 }
 
@@ -105,7 +103,7 @@ pub enum RecoverError {
         journal: HouseDigest,
     },
     /// The journal has a form that this program doesn't read.
-    #[error("the journal isn't of the form allocd-journal-2")]
+    #[error("the journal isn't of the form allocd-journal-3")]
     OtherForm,
     /// The file isn't what a crash leaves of a journal.
     #[error("{0}")]

@@ -1,4 +1,4 @@
-//! A group as it is written: the frames of its entries, its seal, and the next gate, shut.
+//! A group as it is written: the frames of its entries, and its seal.
 
 ghost use Rattle.std.specs.Prelude.{◌≡◌, ◌⊎◌, ◌≤◌, ◌<◌, ◌+◌, ◌^◌, ◌++◌, ℕ, length, true, false};
 ghost use Rattle.std.specs.Prelude.{OnOk, IfErr};
@@ -6,7 +6,7 @@ ghost use Rattle.std.specs.List.{AllByRecursion};
 ghost use Rattle.gu_codec.specs.Writing.{IsText};
 ghost use Rattle.sha2.specs.declared.Sha512.{Sha512 as HasherValue};
 ghost use Rattle.gu_journal.specs.Causes.{IsStopped};
-ghost use Rattle.gu_journal.specs.Groups.{entry_frames, IsSayableEntry, IsGroupOf};
+ghost use Rattle.gu_journal.specs.Groups.{entry_frames, IsMoment, IsSayableEntry, IsGroupOf};
 
 use crate::error::JournalError;
 use crate::lawful::firm_is_lawful;
@@ -18,11 +18,8 @@ use gu_base::{Entry, Number};
 use sha2::{Digest, Sha512};
 use std::alloc::Global;
 
-/// The most bytes of a group, and of a file without its last group and its slack.
+/// The most bytes of a group, and of a file that a group is put behind.
 pub(crate) const MOST_BYTES: usize = 1 << 60;
-
-/// What stands in a gate that is shut.
-pub(crate) const SHUT: u8 = b'\n';
 
 /// Room for a group, which is kept, so that memory is asked for only where more is needed than ever
 /// before.
@@ -66,8 +63,8 @@ fn write_entries(
     ensures text { OnOk result (room.new.text.items ≡ room.old.text.items
         ++ entry_frames first.house moment.now first.number entries.now) }
     ensures sayable { OnOk result (AllByRecursion IsSayableEntry entries.now) }
-    ensures cause { IfErr result (λ e. (len : ℕ) (hasher : HasherValue)
-        → IsStopped first.house moment.now len hasher first.number entries.now e) }
+    ensures cause { IfErr result (λ e. (size : ℕ) (hasher : HasherValue)
+        → IsStopped first.house moment.now size hasher first.number entries.now e) }
 {
     for i in 0..entries.len() {
         let entry = &entries[i];
@@ -95,11 +92,11 @@ fn write_frames(
     moment: &[u8],
     entries: &[Entry],
 ) -> Result<(), JournalError>
-    requires moment { IsText moment.now }
+    requires moment { IsMoment moment.now }
     ensures group { OnOk result (IsGroupOf first.house moment.now first.number
         entries.now hasher.old hasher.new room.new.text.items) }
-    ensures cause { IfErr result (λ e. (len : ℕ)
-        → IsStopped first.house moment.now len hasher.old first.number entries.now e) }
+    ensures cause { IfErr result (λ e. (size : ℕ)
+        → IsStopped first.house moment.now size hasher.old first.number entries.now e) }
 {
     firm_is_lawful(&first.house);
     if !has_room(first.number, entries.len()) {
@@ -114,11 +111,8 @@ fn write_frames(
         house: first.house,
         number: first.number + entries.len() as u32,
     };
-    write_seal(&mut room.text, stamp, moment, &digest)?;
+    write_seal(&mut room.text, stamp, moment, &digest, first.number)?;
     hasher.update(&room.text[seal_at..]);
-    if room.text.push(SHUT).is_err() {
-        return Err(JournalError::Memory);
-    }
     Ok(())
 }
 
@@ -130,12 +124,12 @@ pub(crate) fn write_group(
     moment: &[u8],
     entries: &[Entry],
 ) -> Result<(), JournalError>
-    requires moment { IsText moment.now }
+    requires moment { IsMoment moment.now }
     ensures group { OnOk result (IsGroupOf first.house moment.now first.number
         entries.now hasher.old hasher.new room.new.text.items) }
     ensures short { OnOk result (length room.new.text.items ≤ 2 ^ 60) }
-    ensures cause { IfErr result (λ e. (len : ℕ)
-        → IsStopped first.house moment.now len hasher.old first.number entries.now e) }
+    ensures cause { IfErr result (λ e. (size : ℕ)
+        → IsStopped first.house moment.now size hasher.old first.number entries.now e) }
 {
     write_frames(room, hasher, first, moment, entries)?;
     if room.text.len() > MOST_BYTES {

@@ -4,9 +4,17 @@ ghost use Rattle.std.specs.Prelude.{IsTrue};
 ghost use Rattle.std.specs.List.{AllByRecursion};
 ghost use Rattle.gu_base.specs.Names.{is_firm_text, is_id_text};
 ghost use Rattle.gu_base.specs.Numbers.{is_number};
+ghost use Rattle.hex.specs.Hex.{IsBytes};
 ghost use Rattle.gu_journal.specs.Entries.{IsNode, IsNamedPart, HasLawfulNames};
 
 use gu_base::{AccountId, Command, Entry, FirmId, InstrumentId, NodeName, Number, Part};
+
+/// The numbers of eight bits.
+pub(crate) fn are_bytes(bytes: &[u8])
+    ensures { IsBytes bytes.now }
+{
+    let _ = bytes.len();
+}
 
 /// The name of a firm.
 pub(crate) fn firm_is_lawful(firm: &FirmId)

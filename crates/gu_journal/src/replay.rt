@@ -1,7 +1,7 @@
 //! Taking the frames of a journal, one after the other.
 
-ghost use Rattle.std.specs.Prelude.{◌≡◌, ◌≢◌, ◌≤◌, ◌↔◌, ◌+◌, ◌++◌, [], List, ℕ, length, Some, Ok};
-ghost use Rattle.std.specs.Prelude.{IsTrue, IsSome, IsNone, IfSome, IfOk, IfErr, OnOk};
+ghost use Rattle.std.specs.Prelude.{◌≡◌, ◌≢◌, ◌≤◌, ◌<◌, ◌↔◌, ◌+◌, ◌^◌, ◌++◌, [], List, ℕ, length};
+ghost use Rattle.std.specs.Prelude.{Some, Ok, IsTrue, IsSome, IsNone, IfSome, IfOk, IfErr, OnOk};
 ghost use Rattle.gu_base.specs.House.{House};
 ghost use Rattle.gu_base.specs.Runs.{IsRunFrom};
 ghost use Rattle.gu_base.specs.declared.entry.Entry.{Entry};
@@ -20,7 +20,7 @@ ghost use Rattle.gu_journal.specs.Recovered.{Replays};
 ghost use Rattle.gu_journal.specs.Taking.{IsPinned, AddsCall, AddsNext, Takes};
 ghost use Rattle.gu_journal.specs.declared.damage.Cause.TheVariants.{NoEntry};
 ghost use Rattle.gu_journal.specs.declared.damage.RecoverError.TheVariants.{Damaged};
-ghost use Rattle.gu_journal.specs.declared.replay.Stand.TheVariants.{Fresh, Unsealed};
+ghost use Rattle.gu_journal.specs.declared.replay.Stand.TheVariants.{Fresh, Sealed, Unsealed};
 
 use crate::damage::{Cause, Damage, HouseDigest, RecoverError};
 use crate::session::{DEFAULT_CSTM_APPL_VER_ID, FORM, house_digits, seal_digits};
@@ -66,6 +66,10 @@ pub(crate) struct Replay {
     /// Has taken in the bytes of these frames.
     pub(crate) hasher: Sha512,
     pub(crate) stand: Stand,
+    /// How many of them the head and the sealed groups have.
+    pub(crate) sealed: usize,
+    /// The number of the first entry behind these.
+    pub(crate) first: u32,
     parts: Vec<Part>,
     meaning: Inbound,
 }
@@ -206,11 +210,14 @@ impl Replay {
     /// Nothing taken yet.
     pub(crate) fn new(alloc: Global) -> Replay
         ensures fresh { result.stand ≡ Fresh }
+        ensures sealed { result.sealed ≡ 0 }
         ensures empty { Holds512 result.hasher [] }
     {
         Replay {
             hasher: Sha512::new(),
             stand: Stand::Fresh,
+            sealed: 0,
+            first: 0,
             parts: Vec::new(alloc),
             meaning: Inbound::Heartbeat,
         }
@@ -234,6 +241,21 @@ impl Replay {
         }
     }
 
+    /// Notes where a seal ends that was taken, or the head, and the number of the next entry.
+    fn note_seal(&mut self, end: usize, entry: u32)
+        ensures hasher { self.new.hasher ≡ self.old.hasher }
+        ensures stand { self.new.stand ≡ self.old.stand }
+        ensures sealed { self.old.stand ≡ Sealed
+            → (self.new.sealed ≡ end) × (self.new.first ≡ entry) }
+        ensures unsealed { self.old.stand ≢ Sealed
+            → (self.new.sealed ≡ self.old.sealed) × (self.new.first ≡ self.old.first) }
+    {
+        if self.stand == Stand::Sealed {
+            self.sealed = end;
+            self.first = entry;
+        }
+    }
+
     /// Puts what a message means into its place.
     fn read_meaning(
         &mut self,
@@ -248,6 +270,8 @@ impl Replay {
         ensures place { IfErr result (λ e. IsAt place.at place.entry e) }
         ensures hasher { self.new.hasher ≡ self.old.hasher }
         ensures stand { self.new.stand ≡ self.old.stand }
+        ensures sealed { (self.new.sealed ≡ self.old.sealed)
+            × (self.new.first ≡ self.old.first) }
     {
         match meaning_into(alloc, message, house, &mut self.parts, &mut self.meaning) {
             Ok(()) => Ok(()),
@@ -271,6 +295,8 @@ impl Replay {
         ensures place { IfErr result (λ e. IsAt place.at place.entry e) }
         ensures hasher { self.new.hasher ≡ self.old.hasher }
         ensures stand { OnOk result (self.new.stand ≡ Unsealed) }
+        ensures sealed { (self.new.sealed ≡ self.old.sealed)
+            × (self.new.first ≡ self.old.first) }
     {
         let Inbound::Call {
             firm,
@@ -302,6 +328,8 @@ impl Replay {
         requires numbered { IsNumbered (length book.old.history + 1) message.now }
         ensures house { OnOk result (book.new.house ≡ book.old.house) }
         ensures hasher { self.new.hasher ≡ self.old.hasher }
+        ensures sealed { (self.new.sealed ≡ self.old.sealed)
+            × (self.new.first ≡ self.old.first) }
         ensures takes { (pin taken : List ℕ) → (self.old.stand ≡ Fresh
             → IsPinned pin message.now) → Holds512 self.old.hasher taken
             → OnOk result (Takes book.old.house pin taken self.old.stand book.old.history
@@ -343,8 +371,9 @@ impl Replay {
         at: usize,
     ) -> Result<(), RecoverError>
         requires frame { IsOneFrame frame.now (pairs fields) }
-        ensures takes { (t : House) (taken : List ℕ) → Replays t pin.now.bytes taken self.old
-            book.old
+        requires small { at + length frame.now < 2 ^ 64 }
+        ensures takes { (t : House) (taken : List ℕ) → at ≡ length taken
+            → Replays t pin.now.bytes taken self.old book.old
             → OnOk result (Replays t pin.now.bytes (taken ++ frame.now) self.new book.new) }
         ensures cause { IfErr result (λ e. (t : House) (taken : List ℕ)
             → Replays t pin.now.bytes taken self.old book.old
@@ -367,6 +396,7 @@ impl Replay {
         self.read_meaning(alloc, &house, &message, place)?;
         self.take_message(alloc, book, &message, place)?;
         self.hasher.update(frame);
+        self.note_seal(at + frame.len(), entry);
         Ok(())
     }
 }

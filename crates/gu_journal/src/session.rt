@@ -8,7 +8,7 @@ ghost use Rattle.gu_codec.specs.Messages.{Message};
 ghost use Rattle.gu_journal.specs.Session.{own_header, head_of, head_fields, seal_with};
 
 use crate::stamp::Stamp;
-use crate::writing::put_field;
+use crate::writing::{put_field, put_number_field};
 use gu_base::Memory;
 use gu_codec::{Header, append_field, tags, write_frame};
 use gu_message::msg_types;
@@ -18,11 +18,14 @@ use hex::encode_to_slice;
 pub(crate) const DEFAULT_CSTM_APPL_VER_ID: u32 = 1408;
 
 /// The one form of a journal that is written and read.
-pub(crate) const FORM: &[u8] = b"allocd-journal-2";
+pub(crate) const FORM: &[u8] = b"allocd-journal-3";
 
-/// The most bytes that the group of a head has: 153 beside two names of 16, a number of 7 digits
-/// and a moment of 24, and the gate.
-pub(crate) const LONGEST_HEAD: usize = 217;
+/// The most bytes of a head: 153 beside two names of 16, a number of 7 digits and a moment of 24.
+pub(crate) const LONGEST_HEAD: usize = 216;
+
+/// The most bytes of a file whose head is on its way: the head, a zero behind it, one that is laid
+/// beside, and the 2^20 that are laid at once.
+pub(crate) const LONGEST_BEGINNING: usize = LONGEST_HEAD + 2 + (1 << 20);
 
 /// The most bytes of the fields behind a header.
 const ROOM: usize = 256;
@@ -110,7 +113,7 @@ pub(crate) fn write_head(
     write_own(out, msg_types::LOGON, stamp, moment, body)
 }
 
-/// Appends the frame of a seal, with this digest.
+/// Appends the frame of a seal, with this digest, of a group whose first entry has this number.
 ///
 /// # Errors
 ///
@@ -120,14 +123,16 @@ pub(crate) fn write_seal(
     stamp: Stamp,
     moment: &[u8],
     digest: &[u8; 64],
+    first: u32,
 ) -> Result<(), Memory>
     requires moment { IsText moment.now }
     ensures ok { OnOk result (out.new.items ≡ out.old.items ++ message_text
-        (seal_with stamp.house moment.now stamp.number digest.now)) }
+        (seal_with stamp.house moment.now stamp.number digest.now first)) }
     ensures err { OnErr result (out.new.items ≡ out.old.items) }
 {
     let digits = seal_digits(digest);
     let mut body = [0; 256];
-    let end = put_field(&mut body, 0, tags::TEST_REQ_ID, &digits);
+    let at = put_field(&mut body, 0, tags::TEST_REQ_ID, &digits);
+    let end = put_number_field(&mut body, at, tags::TEXT, u64::from(first));
     write_own(out, msg_types::HEARTBEAT, stamp, moment, &body[..end])
 }

@@ -1,6 +1,7 @@
 //! What a journal adds to what its messages say, beside the moment.
 
-ghost use Rattle.std.specs.Prelude.{◌↔◌, IsTrue};
+ghost use Rattle.std.specs.Prelude.{◌≡◌, ◌↔◌, IsTrue, nat_lt};
+ghost use Rattle.std.specs.List.{list_all};
 ghost use Rattle.gu_journal.specs.Groups.{IsMoment};
 
 use gu_base::FirmId;
@@ -16,9 +17,16 @@ pub(crate) struct Stamp {
     pub(crate) number: u32,
 }
 
-/// Whether a moment may stand in a message: a timestamp of 1 to 24 bytes.
+/// Whether none of the bytes is zero.
+fn has_no_zero(bytes: &[u8]) -> bool
+    ensures { result ≡ list_all (nat_lt 0) bytes.now }
+{
+    bytes.iter().all(|byte| 0 < *byte)
+}
+
+/// Whether a moment may stand in a message: a timestamp of 1 to 24 bytes, none of which is zero.
 pub(crate) fn is_moment(moment: &[u8]) -> bool
     ensures { IsTrue result ↔ IsMoment moment.now }
 {
-    is_timestamp(moment) && is_text(moment)
+    is_timestamp(moment) && is_text(moment) && has_no_zero(moment)
 }

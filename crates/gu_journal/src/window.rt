@@ -1,9 +1,11 @@
 //! The bytes of a file in pieces.
 
-ghost use Rattle.std.specs.Prelude.{◌≡◌, ◌≤◌, ◌<◌, ◌+◌, ◌^◌, ◌++◌, [], ◌∷◌, List, ℕ, length};
-ghost use Rattle.std.specs.Prelude.{take, drop, slice_index, vec_len, OnOk, IfOk, IfErr, IsTrue};
+ghost use Rattle.std.specs.Prelude.{◌≡◌, ◌≤◌, ◌<◌, ◌+◌, ◌^◌, ◌++◌, [], List, ℕ, length};
+ghost use Rattle.std.specs.Prelude.{take, drop, vec_len, eqb, position, OnOk, IfOk, IfErr, IsTrue};
+ghost use Rattle.std.specs.List.{position_or_len};
 ghost use Rattle.sqlite_disk.specs.Disk.{Holds};
-ghost use Rattle.gu_journal.specs.Held.{Adds, OnlyReads};
+ghost use Rattle.gu_store.specs.Zeros.{counted};
+ghost use Rattle.gu_journal.specs.Held.{Adds, Gains, OnlyReads};
 ghost use Rattle.gu_journal.specs.Taking.{IsTold};
 
 use crate::damage::RecoverError;
@@ -61,9 +63,38 @@ fn read_piece<D: Disk>(
     Ok(())
 }
 
+/// The place of the first zero.
+fn zero_in(bytes: &[u8]) -> Option<usize>
+    ensures { result ≡ position (λ b. eqb b 0) bytes.now }
+{
+    bytes.iter().position(|byte| *byte == 0)
+}
+
+/// The place of the first `8`.
+fn frame_in(bytes: &[u8]) -> Option<usize>
+    ensures { result ≡ position (λ b. eqb b 56) bytes.now }
+{
+    bytes.iter().position(|byte| *byte == b'8')
+}
+
+/// How many bytes stand before the first `8`.
+fn strange_in(bytes: &[u8]) -> usize
+    ensures value { result ≡ position_or_len (λ b. eqb b 56) bytes.now }
+    ensures few { result ≤ length bytes.now }
+{
+    frame_in(bytes).unwrap_or(bytes.len())
+}
+
+/// How many bytes stand before the first zero.
+fn counted_len(bytes: &[u8]) -> usize
+    ensures { result ≡ length (counted bytes.now) }
+{
+    zero_in(bytes).unwrap_or(bytes.len())
+}
+
 impl Window {
     ghost use Rattle.gu_codec.specs.Answer.{Answers};
-    ghost use Rattle.gu_journal.specs.Held.{end_of, at_front};
+    ghost use Rattle.gu_journal.specs.Held.{end_of, at_front, strange_len};
 
     /// A window at the front of a file, of which nothing was read.
     pub(crate) fn new(alloc: Global) -> Result<Window, AllocError>
@@ -97,14 +128,6 @@ impl Window {
         read_frame(&self.buffer[self.taken..])
     }
 
-    /// The first byte.
-    pub(crate) fn first(&self) -> u8
-        requires { 0 < length self.now.bytes }
-        ensures { result ≡ slice_index self.now.bytes 0 }
-    {
-        self.buffer[self.taken]
-    }
-
     /// The first bytes.
     pub(crate) fn bytes(&self, len: usize) -> &[u8]
         requires { len ≤ length self.now.bytes }
@@ -123,12 +146,18 @@ impl Window {
         self.at += len;
     }
 
-    /// Puts another first byte.
-    pub(crate) fn put_first(&mut self, byte: u8)
-        requires { 0 < length self.old.bytes }
-        ensures { self.new ≡ record { at = self.old.at; bytes = byte ∷ drop 1 self.old.bytes } }
+    /// Passes the first byte, and all up to the next `8`, with which each frame begins.
+    pub(crate) fn pass_to_frame(&mut self)
+        requires some { 0 < length self.old.bytes }
+        requires small { end_of self.old < 2 ^ 64 }
+        ensures within { strange_len self.old.bytes ≤ length self.old.bytes }
+        ensures passed { self.new ≡ record {
+          at = self.old.at + strange_len self.old.bytes;
+          bytes = drop (strange_len self.old.bytes) self.old.bytes;
+        } }
     {
-        self.buffer[self.taken] = byte;
+        let strange = strange_in(&self.buffer[self.taken + 1..]);
+        self.pass(strange + 1);
     }
 
     /// Moves what is held to the front of the buffer.
@@ -154,5 +183,39 @@ impl Window {
         self.settle();
         let from = self.at + self.len();
         read_piece(disk, from, (len - from).min(PIECE), &mut self.buffer)
+    }
+
+    /// Reads the next piece of a file of which so many bytes may count, up to its first zero. Where
+    /// there is one, no more count.
+    pub(crate) fn fill_counted<D: Disk>(
+        &mut self,
+        disk: &mut D,
+        size: &mut usize,
+    ) -> Result<(), RecoverError>
+        requires usable { IsTrue (D.Disk.is_usable disk.old) }
+        requires more { end_of self.old < size.old }
+        ensures reads { OnlyReads D.Disk.seen D.Disk.may_leave D.Disk.is_usable D.Disk.is_clean
+            disk.old disk.new }
+        ensures err { IfErr result (λ e. IsTold e → ⊥) }
+        ensures gains { OnOk result (Gains (D.Disk.is_clean disk.new) (D.Disk.seen disk.old)
+            size.old size.new self.old self.new) }
+    {
+        let held = self.len();
+        self.fill(disk, *size)?;
+        let first = counted_len(&self.buffer[self.taken + held..]);
+        if first < self.len() - held {
+            self.buffer.truncate(self.taken + held + first);
+            *size = self.at + held + first;
+        }
+        Ok(())
+    }
+
+    /// Goes on at another place of the file, from which nothing was read yet.
+    pub(crate) fn go_to(&mut self, at: usize)
+        ensures { self.new ≡ record { at = at; bytes = [] } }
+    {
+        self.buffer.clear();
+        self.taken = 0;
+        self.at = at;
     }
 }

@@ -19,6 +19,10 @@ use std::time::{Clock, Duration, Instant};
 /// How many connections are accepted in one round.
 const MOST_AT_ONCE: usize = 1024;
 
+/// How long it waits for connections before it looks whether the server is to stop, in
+/// milliseconds.
+const LONGEST_WAIT: u64 = 250;
+
 /// How long it waits for descriptors or buffers before it asks again, in milliseconds.
 const LACK_WAIT: u64 = 20;
 
@@ -67,6 +71,14 @@ pub(crate) struct Inlets<'a> {
 }
 
 impl Inlets<'_> {
+    /// Whether an operator has said that the server is to stop.
+    fn stops(&self) -> bool {
+        match self.board {
+            Some(board) => board.instructions().stops(),
+            None => false,
+        }
+    }
+
     /// Hands a connection to the worker that has the fewest. One for which memory lacks is dropped.
     fn hand<R: Wait>(&self, rt: &R, stream: TcpStream) -> Result<(), KeepError> {
         let at = self.bells.least();
@@ -130,7 +142,7 @@ impl Inlets<'_> {
         Ok(taken)
     }
 
-    /// Accepts so many connections, or with 0 without end, until the server is to end.
+    /// Accepts so many connections, or with 0 without end, until the server is to end or to stop.
     pub(crate) fn accept_all<R: Wait + Clock>(
         &self,
         rt: &R,
@@ -151,12 +163,12 @@ impl Inlets<'_> {
         let fd = listener.as_raw_fd();
         for _ in rt.forever() {
             if poll
-                .poll(&mut events, Some(Duration::from_secs(1)))
+                .poll(&mut events, Some(Duration::from_millis(LONGEST_WAIT)))
                 .is_err()
             {
                 return Err(KeepError::Poll);
             }
-            if self.bells.ends() {
+            if self.bells.ends() || self.stops() {
                 return Ok(());
             }
             if let Some(board) = self.board {

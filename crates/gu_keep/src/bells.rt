@@ -1,8 +1,10 @@
 //! How the threads of a server wake each other.
 
 use crate::news::NewsBoard;
+use crate::shutter::Shutters;
 use crate::words::Words;
 use mio::Waker;
+use std::sync::Arc;
 use std::sync::atomic::{AtomicBool, AtomicU64, Ordering};
 
 /// What a worker is woken by.
@@ -33,6 +35,8 @@ pub(crate) struct Bells {
     pub(crate) stop: AtomicBool,
     pub(crate) words: Words,
     pub(crate) news: NewsBoard,
+    /// What the watch can shut of connections.
+    pub(crate) shutters: Arc<Shutters>,
 }
 
 impl Bell {
@@ -99,6 +103,15 @@ impl Bells {
         if let Some(bell) = self.workers.get(at) {
             bell.open.fetch_sub(1, Ordering::SeqCst);
         }
+    }
+
+    /// How many connections are open.
+    pub(crate) fn open(&self) -> u64 {
+        let mut open = 0u64;
+        for bell in self.workers.as_slice() {
+            open = open.saturating_add(bell.open.load(Ordering::SeqCst));
+        }
+        open
     }
 
     /// Wakes a worker.

@@ -18,6 +18,7 @@ use gu_connection::{
 use gu_desk::{Gate, Job, Seat};
 use gu_limits::{Ending, is_silent};
 use gu_recorder::{Outbox, Rest, Wire};
+use gu_session::Gap;
 use std::sync::Wait;
 use std::time::{Clock, Instant};
 
@@ -26,6 +27,23 @@ const MOST_UNREAD: usize = 1 << 20;
 
 /// After how many milliseconds without a turn it has one for what is new.
 const REST: u64 = 2;
+
+/// What others have of a connection, once a firm has logged on.
+#[derive(Clone, Copy)]
+pub(crate) struct Beside {
+    /// Where the watch has it in its hands.
+    pub(crate) shutter: Option<usize>,
+    /// How often an operator had put the firm's connections out.
+    put_out: Option<u64>,
+}
+
+impl Beside {
+    /// Nothing yet.
+    const NOTHING: Beside = Beside {
+        shutter: None,
+        put_out: None,
+    };
+}
 
 /// A connection, what it is to be sent, and how it stands.
 #[derive(Drop)]
@@ -75,6 +93,7 @@ pub(crate) struct Client<'a, J: Job> {
     pub(crate) hurries: bool,
     /// Whether it stands among those that have a turn once they have rested.
     pub(crate) rests: bool,
+    pub(crate) beside: Beside,
     /// What an operator is told of it.
     pub(crate) visit: Visit,
 }
@@ -126,6 +145,7 @@ pub(crate) fn open_client<'a, J: Job, R, G>(
         sends: false,
         hurries: false,
         rests: false,
+        beside: Beside::NOTHING,
         visit,
     })
 }
@@ -156,6 +176,14 @@ impl<'a, J: Job> Client<'a, J> {
         let firm = self.connection.firm()?;
         let above = self.connection.begun()?;
         Some((firm, above))
+    }
+
+    /// The gap that is open in what its firm sends, if one is and it goes on.
+    pub(crate) fn gap(&self) -> Option<Gap> {
+        if self.ended {
+            return None;
+        }
+        self.connection.gap()
     }
 
     /// How many bytes wait to be sent.
@@ -478,8 +506,76 @@ impl<'a, J: Job> Client<'a, J> {
         false
     }
 
-    /// Whether it is to be closed behind a turn: it has no Logon in time, or its firm has too many
-    /// connections or has said nothing for too long, and is told so.
+    /// Why it ends by what an operator has said, if it does.
+    fn said<R, G>(&mut self, worker: &Worker<'a, J, R, G>) -> Option<Ending>
+        ensures outbox { self.new.outbox ≡ self.old.outbox }
+        ensures connection { self.new.connection ≡ self.old.connection }
+    {
+        let Some(firm) = self.connection.firm() else {
+            return None;
+        };
+        let said = worker.tallies.said_of(&firm);
+        let before = self.beside.put_out.unwrap_or(said.put_out);
+        self.beside.put_out = Some(before);
+        said.ending(before)
+    }
+
+    /// Ends it for this, if it hasn't ended, and it is told so.
+    #[tactic(auto, using(gu_connection::proofs::Seen::itself, gu_connection::proofs::Seen::still))]
+    fn dismiss<R: Clock, G>(
+        &mut self,
+        worker: &Worker<'a, J, R, G>,
+        seat: &mut Seat<J>,
+        second: u64,
+        ending: Ending,
+    )
+        ensures same { seat.new ≡ seat.old }
+        ensures adds { Adds self.old.outbox self.new.outbox seat.old.seen }
+    {
+        if self.ended {
+            return;
+        }
+        let _ = self
+            .connection
+            .log_out(worker.rt, worker.alloc, worker.house, ending.text());
+        self.ended = true;
+        self.note_end(worker.tallies);
+        self.hold_told(worker, seat, second);
+    }
+
+    /// Ends it, if an operator has said so of its firm, and it is told so.
+    pub(crate) fn heed<R: Clock, G>(
+        &mut self,
+        worker: &Worker<'a, J, R, G>,
+        seat: &mut Seat<J>,
+        second: u64,
+    )
+        ensures same { seat.new ≡ seat.old }
+        ensures adds { Adds self.old.outbox self.new.outbox seat.old.seen }
+    {
+        if let Some(ending) = self.said(worker) {
+            self.dismiss(worker, seat, second, ending);
+        }
+    }
+
+    /// Ends it, since the server stops, and it is told so. From then on it is closed where the peer
+    /// doesn't take what is left at once, if that is late.
+    pub(crate) fn stop<R: Clock, G>(
+        &mut self,
+        worker: &Worker<'a, J, R, G>,
+        seat: &mut Seat<J>,
+        second: u64,
+        is_late: bool,
+    )
+        ensures same { seat.new ≡ seat.old }
+        ensures adds { Adds self.old.outbox self.new.outbox seat.old.seen }
+    {
+        self.cut = self.cut || is_late;
+        self.dismiss(worker, seat, second, Ending::Stops);
+    }
+
+    /// Whether it is to be closed behind a turn: it has no Logon in time, or an operator has said
+    /// so, or its firm has too many connections or has said nothing for too long, and is told so.
     fn ends<R: Clock, G>(&mut self, worker: &Worker<'a, J, R, G>, second: u64) -> bool
         ensures outbox { self.new.outbox ≡ self.old.outbox }
         ensures open { result ≡ false → self.new.connection ≡ self.old.connection }
@@ -496,7 +592,9 @@ impl<'a, J: Job> Client<'a, J> {
         let Some(firm) = self.connection.firm() else {
             return false;
         };
-        let ending = if !self.enters(worker, &firm) {
+        let ending = if let Some(ending) = self.said(worker) {
+            ending
+        } else if !self.enters(worker, &firm) {
             Ending::Connections
         } else if is_silent(self.heard, second) {
             Ending::Silence
@@ -511,7 +609,6 @@ impl<'a, J: Job> Client<'a, J> {
     }
 
     /// Ends it, since too much waits for its firm, and it is told so.
-    #[tactic(auto, using(gu_connection::proofs::Seen::itself, gu_connection::proofs::Seen::still))]
     pub(crate) fn cut<R: Clock, G>(
         &mut self,
         worker: &Worker<'a, J, R, G>,
@@ -521,20 +618,14 @@ impl<'a, J: Job> Client<'a, J> {
         ensures same { seat.new ≡ seat.old }
         ensures adds { Adds self.old.outbox self.new.outbox seat.old.seen }
     {
-        let ending = Ending::Held;
         self.cut = true;
         if self.ended {
             return;
         }
         if let Some(firm) = self.connection.firm() {
-            worker.tallies.note(&firm, ending);
+            worker.tallies.note(&firm, Ending::Held);
         }
-        let _ = self
-            .connection
-            .log_out(worker.rt, worker.alloc, worker.house, ending.text());
-        self.ended = true;
-        self.note_end(worker.tallies);
-        self.hold_told(worker, seat, second);
+        self.dismiss(worker, seat, second, Ending::Held);
     }
 
     /// What a turn leaves that knows of this: where the peer sends no more, also the end of what

@@ -44,6 +44,8 @@ pub(crate) struct Clients<'a, J: Job> {
     pub(crate) shares: Shares,
     /// The streams of those that have ended, in the order in which they did.
     lingering: VecDeque<Lingering>,
+    /// For how many seconds one lingers at the most, where the server stops.
+    most_lingering: Option<u64>,
     /// The second that began last.
     second: u64,
     /// The millisecond of the round.
@@ -77,6 +79,7 @@ impl<'a, J: Job> Clients<'a, J> {
             late: Vec::new(alloc),
             shares: Shares::new(alloc, house),
             lingering: VecDeque::new(alloc),
+            most_lingering: None,
             second: 0,
             millis: 0,
             news,
@@ -308,7 +311,8 @@ impl<'a, J: Job> Clients<'a, J> {
         }
     }
 
-    /// Counts the connection at a place for its firm, whose news it hears from now on.
+    /// Counts the connection at a place for its firm, whose news it hears from now on. It looks at
+    /// what was kept before.
     fn join(&mut self, at: usize) {
         let Some(Some(client)) = self.places.get_mut(at) else {
             return;
@@ -329,7 +333,7 @@ impl<'a, J: Job> Clients<'a, J> {
             *count = count.saturating_add(1);
         }
         self.news.join(place, self.worker);
-        client.want(self.news.newest(place));
+        client.want(self.news.newest(place).max(self.news.kept()));
     }
 
     /// Counts a connection of the firm at a place less.
@@ -424,12 +428,31 @@ impl<'a, J: Job> Clients<'a, J> {
         if self.lingering.len() >= MOST_LINGERING {
             self.close_oldest();
         }
+        let wait = wait.min(self.most_lingering.unwrap_or(wait));
         let Some(lingering) = Lingering::new(at, wire, second, wait) else {
             let _ = self.free.push(at);
             return;
         };
         if self.lingering.push_back(lingering).is_err() {
             let _ = self.free.push(at);
+        }
+    }
+
+    /// Has streams linger for no more than so many seconds from now on.
+    pub(crate) fn linger_no_longer(&mut self, second: u64, most: u64) {
+        if self.most_lingering.is_some() {
+            return;
+        }
+        self.most_lingering = Some(most);
+        for _ in 0..self.lingering.len() {
+            let Some(mut it) = self.lingering.pop_front() else {
+                return;
+            };
+            it.end_by(second.saturating_add(most));
+            let at = it.at;
+            if self.lingering.push_back(it).is_err() {
+                let _ = self.free.push(at);
+            }
         }
     }
 
@@ -476,6 +499,7 @@ impl<'a, J: Job> Clients<'a, J> {
         if let Some(place) = client.place {
             self.part(place);
         }
+        self.news.note_end();
         self.open = self.open.saturating_sub(1);
         // The system drops the descriptor from the poll when it is closed.
         if client.lingers() {

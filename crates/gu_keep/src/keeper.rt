@@ -36,6 +36,12 @@ const MOST_TAKEN: usize = 64;
 /// first is closed.
 const MOST_UNNAMED: usize = 2_048;
 
+/// Where the server stops: for how many milliseconds peers may leave what is kept untaken, and for
+/// how many seconds a stream lingers, beside the one that goes on.
+const MOST_LAST: u64 = 2_000;
+
+const LAST_LINGER: u64 = 1;
+
 /// After how many milliseconds those on which calls wait are asked again.
 pub(crate) const LATE_WAIT: u64 = 16;
 
@@ -66,6 +72,8 @@ struct Round<J: Job> {
     /// last woken since too much waits for a firm.
     late_asked: u64,
     rang: u64,
+    /// When the worker saw first that the server is to stop.
+    stops: Option<u64>,
     /// What the newest bytes that were made rest on, and how many entries the journal was asked to
     /// record last.
     newest: Ticket<J>,
@@ -260,6 +268,7 @@ impl<'a, K: OpenJournal, J: Job, R: Wait + Clock, G: Gate> Keeper<'a, K, J, R, G
         if let Some(Some(client)) = clients.places.get_mut(at) {
             client.leave(self.worker.tallies);
             self.say_end(client, second, why);
+            self.let_go(client);
         }
         if clients.close(at, second) {
             self.bell.open.fetch_sub(1, Ordering::SeqCst);
@@ -277,10 +286,40 @@ impl<'a, K: OpenJournal, J: Job, R: Wait + Clock, G: Gate> Keeper<'a, K, J, R, G
         }
     }
 
-    /// Counts what a turn has done, and says that a firm has logged on, if it has. The worker is
-    /// well.
-    fn end_turn(&self, client: &mut Client<'a, J>, before: (Work, usize), piece: &[u8]) {
+    /// Has the watch hold the stream of a client on which a firm has logged on.
+    fn hold(&self, client: &mut Client<'a, J>) {
+        if client.beside.shutter.is_none() && client.firm().is_some() {
+            client.beside.shutter = self.bells.shutters.hold(self.worker.rt, &client.wire);
+        }
+    }
+
+    /// Has the watch let go of it, if it holds it.
+    fn let_go(&self, client: &Client<'a, J>) {
+        if let Some(place) = client.beside.shutter {
+            self.bells.shutters.let_go(self.worker.rt, place);
+        }
+    }
+
+    /// Has the watch let go of all that are there, so that they end with the worker.
+    fn let_all_go(&self, clients: &Clients<'a, J>) {
+        for at in 0..clients.places.len() {
+            if let Some(client) = clients.at(at) {
+                self.let_go(client);
+            }
+        }
+    }
+
+    /// Counts what a turn in this second has done, and says that a firm has logged on, if it has,
+    /// and that its messages have lacked for long. The worker is well.
+    fn end_turn(
+        &self,
+        client: &mut Client<'a, J>,
+        before: (Work, usize),
+        piece: &[u8],
+        second: u64,
+    ) {
         client.count_held(self.worker.tallies);
+        self.hold(client);
         let Some(board) = self.worker.tallies.board() else {
             return;
         };
@@ -289,6 +328,10 @@ impl<'a, K: OpenJournal, J: Job, R: Wait + Clock, G: Gate> Keeper<'a, K, J, R, G
         board.waits(before.1, client.waiting());
         if let Some((firm, above)) = client.begun() {
             client.visit.say_logon(self.worker.rt, board, &firm, above);
+            let gap = client.gap();
+            client
+                .visit
+                .look_at_gap(self.worker.rt, board, &firm, gap, second);
         }
     }
 
@@ -315,7 +358,7 @@ impl<'a, K: OpenJournal, J: Job, R: Wait + Clock, G: Gate> Keeper<'a, K, J, R, G
         if let Some(Some(client)) = clients.places.get_mut(at) {
             let before = self.begin_turn(client);
             seat = client.turn(&self.worker, seat, piece, second, span);
-            self.end_turn(client, before, piece);
+            self.end_turn(client, before, piece, second);
             over = client.is_over();
             clients
                 .shares
@@ -334,7 +377,7 @@ impl<'a, K: OpenJournal, J: Job, R: Wait + Clock, G: Gate> Keeper<'a, K, J, R, G
         if let Some(Some(client)) = clients.places.get_mut(at) {
             let before = self.begin_turn(client);
             client.beat(&self.worker, second);
-            self.end_turn(client, before, &[]);
+            self.end_turn(client, before, &[], second);
             over = client.is_over();
         }
         clients.list(at);
@@ -379,8 +422,78 @@ impl<'a, K: OpenJournal, J: Job, R: Wait + Clock, G: Gate> Keeper<'a, K, J, R, G
         }
     }
 
+    /// Whether an operator has said that the server is to stop.
+    fn stops(&self) -> bool {
+        match self.worker.tallies.board() {
+            Some(board) => board.instructions().stops(),
+            None => false,
+        }
+    }
+
+    /// Counts what an end has put behind what waited for a client.
+    fn count_end(&self, client: &mut Client<'a, J>, before: usize) {
+        client.count_held(self.worker.tallies);
+        if let Some(board) = self.worker.tallies.board() {
+            board.waits(before, client.waiting());
+        }
+    }
+
+    /// Lists the connection at a place where it belongs, or closes it where all is sent.
+    fn settle(&self, clients: &mut Clients<'a, J>, second: u64, at: usize) {
+        let over = match clients.at(at) {
+            Some(client) => client.is_over(),
+            None => false,
+        };
+        if over {
+            self.close(clients, at, second, ended_by(clients.at(at)));
+        } else {
+            clients.list(at);
+        }
+    }
+
+    /// Ends the connections of which an operator has said so.
+    fn heed(&self, seat: &mut Seat<J>, clients: &mut Clients<'a, J>, second: u64) {
+        let Some(board) = self.worker.tallies.board() else {
+            return;
+        };
+        if !board.instructions().are_some() {
+            return;
+        }
+        for at in 0..clients.places.len() {
+            if let Some(Some(client)) = clients.places.get_mut(at) {
+                let before = client.waiting();
+                client.heed(&self.worker, seat, second);
+                self.count_end(client, before);
+            }
+            self.settle(clients, second, at);
+        }
+    }
+
+    /// Where the server stops: ends all connections. What was asked is answered, and two seconds
+    /// later what a peer doesn't take at once is given up.
+    fn stop(&self, seat: &mut Seat<J>, clients: &mut Clients<'a, J>, round: &mut Round<J>) {
+        if !self.stops() {
+            return;
+        }
+        let second = round.second;
+        let since = round.stops.unwrap_or(round.millis);
+        round.stops = Some(since);
+        clients.linger_no_longer(second, LAST_LINGER);
+        let is_late = round.millis.saturating_sub(since) >= MOST_LAST;
+        for at in 0..clients.places.len() {
+            self.close_stranger(clients, at, second);
+            if let Some(Some(client)) = clients.places.get_mut(at) {
+                let before = client.waiting();
+                client.stop(&self.worker, seat, second, is_late);
+                self.count_end(client, before);
+            }
+            self.settle(clients, second, at);
+        }
+    }
+
     /// Each second: a turn with each connection that had none, the end of those whose peer takes
-    /// nothing, and of strangers that stay it, and a word on those that were closed for a limit.
+    /// nothing, of strangers that stay it, and of those of which an operator has said so, and a
+    /// word on those that were closed for a limit.
     /// What sessions say by themselves is made before the turn's reading, and where a group is
     /// being written there is no reading, so that it waits for no group.
     fn tick(&self, seat: Seat<J>, clients: &mut Clients<'a, J>, round: &mut Round<J>) -> Seat<J> {
@@ -388,6 +501,7 @@ impl<'a, K: OpenJournal, J: Job, R: Wait + Clock, G: Gate> Keeper<'a, K, J, R, G
         let mut seat = seat;
         let second = round.second;
         clients.begin_second(second);
+        self.heed(&mut seat, clients, second);
         for at in 0..clients.places.len() {
             self.end_stalled(clients, second, at);
             self.end_late(clients, second, at);
@@ -530,10 +644,7 @@ impl<'a, K: OpenJournal, J: Job, R: Wait + Clock, G: Gate> Keeper<'a, K, J, R, G
             if !client.is_cut() {
                 let before = client.waiting();
                 client.cut(&self.worker, seat, second);
-                client.count_held(self.worker.tallies);
-                if let Some(board) = self.worker.tallies.board() {
-                    board.waits(before, client.waiting());
-                }
+                self.count_end(client, before);
             }
         }
         clients.list(at);
@@ -552,7 +663,7 @@ impl<'a, K: OpenJournal, J: Job, R: Wait + Clock, G: Gate> Keeper<'a, K, J, R, G
             0
         } else if clients.some_rest() {
             1
-        } else if clients.has_late() || self.lacks_memory() {
+        } else if clients.has_late() || self.lacks_memory() || self.stops() {
             LATE_WAIT
         } else {
             1000 - round.millis % 1000
@@ -611,6 +722,7 @@ impl<'a, K: OpenJournal, J: Job, R: Wait + Clock, G: Gate> Keeper<'a, K, J, R, G
                 coming = self.take_all(poll, clients, round.second);
             }
             self.relieve(&mut mine, clients, round);
+            self.stop(&mut mine, clients, round);
             round.newest = self.worker.desk.ticket(&mut mine);
             *seat = Some(mine);
             self.tell(clients, round)?;
@@ -647,6 +759,7 @@ impl<'a, K: OpenJournal, J: Job, R: Wait + Clock, G: Gate> Keeper<'a, K, J, R, G
             second: 0,
             late_asked: 0,
             rang: 0,
+            stops: None,
             newest,
             asked_for: 0,
         };
@@ -657,6 +770,7 @@ impl<'a, K: OpenJournal, J: Job, R: Wait + Clock, G: Gate> Keeper<'a, K, J, R, G
         if served.is_err() {
             self.bells.end();
         }
+        self.let_all_go(&clients);
         if let Some(board) = self.worker.tallies.board() {
             board.ends(self.worker.number);
         }

@@ -8,7 +8,7 @@
 //! - Once a group is kept the workers are woken that have connections of a firm that it concerns,
 //!   and these connections have a turn.
 //! - The watch ends a server of which a part stands still, also in its start. It shuts the listener
-//!   first, so that a process that can't end holds no port.
+//!   and the sessions first, so that a process that can't end holds no port and no firm.
 //! - The pages of `--status` are answered on threads of their own, many at a time.
 //! - The totals are written when all connections have ended, and then the log says that the program
 //!   ends.
@@ -22,7 +22,6 @@ mod keeper;
 mod lingering;
 mod news;
 mod pages;
-mod privacy;
 mod running;
 mod said;
 mod scribe;

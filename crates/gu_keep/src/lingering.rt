@@ -35,6 +35,11 @@ impl Lingering {
         })
     }
 
+    /// Has it stay open no longer than to this second.
+    pub(crate) fn end_by(&mut self, second: u64) {
+        self.most = self.most.min(second.saturating_sub(self.since));
+    }
+
     /// Whether it is to stay open: its peer hasn't ended, and has time.
     pub(crate) fn stays(&mut self, second: u64) -> bool {
         let goes_on = read_away(&mut self.wire, MOST_READS);

@@ -1,5 +1,6 @@
 //! Who is to hear at once of what is kept now: the workers that have connections of a firm that a
-//! new entry concerns.
+//! new entry concerns. What a connection made itself it has heard in its turn, so where it alone is
+//! there nothing is spread. Who logs on later looks at all that was kept.
 
 use crate::bells::Bells;
 use gu_base::{FirmId, Memory};
@@ -7,9 +8,9 @@ use gu_desk::News;
 use gu_parties::House;
 use indexmap::IndexMap;
 use std::alloc::{AllocError, Global};
-use std::sync::atomic::{AtomicU32, AtomicU64, Ordering};
+use std::sync::atomic::{AtomicBool, AtomicU32, AtomicU64, Ordering};
 
-/// The last entry that is kept and concerns a firm, and the workers that have connections of it.
+/// The last entry that was spread and concerns a firm, and the workers that have connections of it.
 #[derive(Drop)]
 struct Newest {
     number: AtomicU32,
@@ -21,6 +22,10 @@ struct Newest {
 #[derive(Drop)]
 pub(crate) struct NewsBoard {
     firms: IndexMap<FirmId, Newest>,
+    /// How many entries are kept.
+    kept: AtomicU32,
+    /// Whether a connection has ended that may have made what others haven't heard of.
+    parted: AtomicBool,
 }
 
 /// The bit of a worker.
@@ -33,6 +38,8 @@ impl NewsBoard {
     pub(crate) fn new(alloc: Global) -> NewsBoard {
         NewsBoard {
             firms: IndexMap::new(alloc),
+            kept: AtomicU32::new(0),
+            parted: AtomicBool::new(false),
         }
     }
 
@@ -64,7 +71,24 @@ impl NewsBoard {
         self.firms.get_index_of(firm)
     }
 
-    /// The last entry that is kept and concerns the firm at a place, or 0.
+    /// How many entries are kept.
+    pub(crate) fn kept(&self) -> u32 {
+        self.kept.load(Ordering::SeqCst)
+    }
+
+    /// Notes that a connection ends, while it still counts as open.
+    pub(crate) fn note_end(&self) {
+        self.parted.store(true, Ordering::SeqCst);
+    }
+
+    /// Notes that so many entries are kept: whether the newest may concern others than who made
+    /// them. Who isn't open yet finds the number when it logs on.
+    pub(crate) fn are_due(&self, bells: &Bells, kept: u32) -> bool {
+        self.kept.store(kept, Ordering::SeqCst);
+        bells.open() > 1 || self.parted.swap(false, Ordering::SeqCst)
+    }
+
+    /// The last entry that was spread and concerns the firm at a place, or 0.
     pub(crate) fn newest(&self, place: usize) -> u32 {
         match self.firms.get_index(place) {
             Some((_, newest)) => newest.number.load(Ordering::SeqCst),

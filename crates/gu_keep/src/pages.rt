@@ -1,7 +1,7 @@
 //! The pages of a server: figures, readiness and health over HTTP. A window where they are asked
 //! for has a thread of its own, and each of its conversations has one.
 
-use gu_board::Board;
+use gu_board::{Board, heed};
 use gu_command::StatusAt;
 use gu_status::{Pages, Snapshot};
 use http_server::{Config, Connection};
@@ -139,6 +139,14 @@ enum Visitor {
 }
 
 impl Visitor {
+    /// Whether it asks at a socket.
+    fn is_at_socket(&self) -> bool {
+        match self {
+            Visitor::Port(_) => false,
+            Visitor::Socket(_) => true,
+        }
+    }
+
     /// Moves a connection on, for no longer than this.
     fn step(&mut self, connection: &mut Connection, wait: Duration) -> io::Result<()> {
         match self {
@@ -156,9 +164,11 @@ impl Visitor {
     }
 }
 
-/// Moves a connection on until it is answered, or has had the time that it may take.
-fn converse<R: Clock>(
+/// Moves a connection on until it is answered, or has had the time that it may take. What an
+/// operator says is heeded before that is answered.
+fn converse<R: Wait + Clock>(
     rt: &R,
+    board: &Board,
     connection: &mut Connection,
     pages: &mut Pages<'_>,
     visitor: &mut Visitor,
@@ -167,6 +177,9 @@ fn converse<R: Clock>(
     let start = Instant::now(rt)?;
     for _ in 0..MOST_STEPS {
         connection.advance(pages);
+        if let Some(word) = pages.take_word() {
+            heed(rt, board, word);
+        }
         let left = most.saturating_sub(start.elapsed(rt)?);
         if connection.is_done() || left.as_millis() == 0 {
             return Ok(());
@@ -177,29 +190,32 @@ fn converse<R: Clock>(
 }
 
 /// Answers what a visitor asks for, as the server stood when it came.
-fn answer<R: Clock + RandomSource>(
+fn answer<R: Wait + Clock + RandomSource>(
     rt: &R,
     alloc: Global,
+    board: &Board,
     snapshot: &Snapshot,
     visitor: &mut Visitor,
 ) -> io::Result<()> {
     let keys = RandomState::new(rt)?;
-    let mut pages = Pages::new(alloc, snapshot);
+    let at_socket = visitor.is_at_socket();
+    let mut pages = Pages::new(alloc, snapshot, at_socket);
     let mut connection = Connection::new(alloc, keys, Config::default());
-    converse(rt, &mut connection, &mut pages, visitor)
+    converse(rt, board, &mut connection, &mut pages, visitor)
 }
 
 impl Visitor {
     /// Answers, and is no longer counted among those that are answered.
-    fn answer_last<R: Clock + RandomSource>(
+    fn answer_last<R: Wait + Clock + RandomSource>(
         self,
         rt: &R,
         alloc: Global,
+        board: Arc<Board>,
         snapshot: Snapshot,
         open: Arc<AtomicU64>,
     ) {
         let mut visitor = self;
-        let _ = answer(rt, alloc, &snapshot, &mut visitor);
+        let _ = answer(rt, alloc, &board, &snapshot, &mut visitor);
         open.fetch_sub(1, Ordering::SeqCst);
     }
 }
@@ -208,6 +224,7 @@ impl Visitor {
 fn answer_beside<R: Threads + Wait + Clock + RandomSource + Copy + Send + Sync + 'static>(
     rt: &R,
     alloc: Global,
+    board: Arc<Board>,
     visitor: Visitor,
     snapshot: Snapshot,
     open: Arc<AtomicU64>,
@@ -215,7 +232,7 @@ fn answer_beside<R: Threads + Wait + Clock + RandomSource + Copy + Send + Sync +
     let there = *rt;
     match thread::spawn(
         rt,
-        move || visitor.answer_last(&there, alloc, snapshot, open),
+        move || visitor.answer_last(&there, alloc, board, snapshot, open),
     ) {
         Ok(_) => true,
         Err(_) => false,
@@ -237,16 +254,16 @@ impl Window {
         &self,
         rt: &R,
         alloc: Global,
-        board: &Board,
+        board: &Arc<Board>,
         open: &Arc<AtomicU64>,
     ) -> io::Result<()> {
         let visitor = self.accept()?;
         let snapshot = board.snapshot()?;
-        let Ok(mine) = Arc::try_clone(open) else {
+        let (Ok(shared), Ok(mine)) = (Arc::try_clone(board), Arc::try_clone(open)) else {
             return Ok(());
         };
         open.fetch_add(1, Ordering::SeqCst);
-        if !answer_beside(rt, alloc, visitor, snapshot, mine) {
+        if !answer_beside(rt, alloc, shared, visitor, snapshot, mine) {
             open.fetch_sub(1, Ordering::SeqCst);
         }
         Ok(())

@@ -4,21 +4,21 @@ use crate::accepting::Inlets;
 use crate::bells::{Bell, Bells};
 use crate::keeper::{Keeper, WOKEN};
 use crate::news::NewsBoard;
-use crate::shutter::Shutter;
+use crate::shutter::Shutters;
 use crate::words::Words;
 use crossbeam_channel::Sender;
 use gu_command::KeepError;
 use gu_connection::Worker;
 use gu_desk::{Gate, Job, Seat};
 use gu_parties::House;
-use gu_recorder::{OpenJournal, Recorder};
+use gu_recorder::{OpenJournal, Recorder, Shutter};
 use mio::net::TcpListener;
 use mio::unix::SourceFd;
 use mio::{Interest, Poll, Token, Waker};
 use std::alloc::Global;
 use std::net::{Net, TcpStream};
 use std::os::fd::AsRawFd;
-use std::sync::{Mutex, Wait};
+use std::sync::{Arc, Mutex, Wait};
 use std::thread;
 use std::thread::{JoinHandle, Threads};
 use std::time::Clock;
@@ -30,12 +30,14 @@ type Done<J> = (Option<Seat<J>>, Result<(), KeepError>);
 /// and of the journal's.
 pub(crate) type Polls = (Bells, Vec<Poll>, Poll, Poll);
 
-/// The polls of so many workers, who need the words of other machines or don't.
+/// The polls of so many workers, who need the words of other machines or don't, and what the watch
+/// can shut of their connections.
 pub(crate) fn make_polls<R: Net + Clock>(
     rt: &R,
     alloc: Global,
     workers: u32,
     need_words: bool,
+    shutters: Arc<Shutters>,
 ) -> Result<Polls, KeepError> {
     let words = Words::new(rt, need_words)?;
     let mut bells: Vec<Bell> = Vec::new(alloc);
@@ -62,6 +64,7 @@ pub(crate) fn make_polls<R: Net + Clock>(
         stop: std::sync::atomic::AtomicBool::new(false),
         words,
         news: NewsBoard::new(alloc),
+        shutters,
     };
     Ok((bells, polls, poll, journals))
 }

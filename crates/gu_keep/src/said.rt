@@ -4,6 +4,7 @@
 use gu_base::FirmId;
 use gu_codec::{Fields, Frame, read_frame, tags};
 use gu_parties::House;
+use gu_status::Cause;
 
 /// How many of the first bytes are shown where they are no frame.
 const MOST_SHOWN: usize = 64;
@@ -38,38 +39,56 @@ fn is_from_firm(house: &House, fields: Fields<'_>) -> bool {
 }
 
 /// What is wrong with a message as the first of a connection.
-fn fault_of(house: &House, fields: Fields<'_>) -> &'static str {
+fn fault_of(house: &House, fields: Fields<'_>) -> Cause {
     if !has(fields, tags::MSG_TYPE, b"A") {
-        return "the first message is no Logon";
+        return Cause::NoLogon;
     }
     if !is_from_firm(house, fields) {
-        return "49 is no firm of the house file";
+        return Cause::NoFirm;
     }
     if !has(fields, tags::TARGET_COMP_ID, house.house().as_bytes()) {
-        return "56 is not the house";
+        return Cause::Target;
     }
     if !has(fields, tags::MSG_SEQ_NUM, b"1") {
-        return "34 is not 1";
+        return Cause::Number;
     }
     if !has(fields, tags::ENCRYPT_METHOD, b"0") {
-        return "98 is not 0";
+        return Cause::Encryption;
     }
     if !has(fields, tags::DEFAULT_APPL_VER_ID, b"9") {
-        return "1137 is not 9";
+        return Cause::Version;
     }
-    "the Logon is not understood"
+    Cause::Logon
 }
 
 /// Why the first bytes of a connection are no Logon that is accepted.
-pub(crate) fn why_refused(house: &House, first: &[u8]) -> &'static str {
+pub(crate) fn why_refused(house: &House, first: &[u8]) -> Cause {
     if first.is_empty() {
-        return "no message came";
+        return Cause::NoMessage;
     }
     match read_frame(first) {
         Frame::Whole { fields, .. } => fault_of(house, fields),
-        Frame::Garbled { .. } => "a garbled frame",
-        Frame::Broken { .. } => "no frame of FIX",
-        Frame::Partial => "no whole frame came",
+        Frame::Garbled { .. } => Cause::Garbled,
+        Frame::Broken { .. } => Cause::NoFrame,
+        Frame::Partial => Cause::Partial,
+    }
+}
+
+/// What is said of a cause.
+pub(crate) fn text_of_cause(cause: Cause) -> &'static str {
+    match cause {
+        Cause::NoMessage => "no message came",
+        Cause::NoFrame => "no frame of FIX",
+        Cause::Garbled => "a garbled frame",
+        Cause::Partial => "no whole frame came",
+        Cause::NoLogon => "the first message is no Logon",
+        Cause::NoFirm => "49 is no firm of the house file",
+        Cause::Target => "56 is not the house",
+        Cause::Number => "34 is not 1",
+        Cause::Encryption => "98 is not 0",
+        Cause::Version => "1137 is not 9",
+        Cause::Logon => "the Logon is not understood",
+        Cause::LoggedOut => "logged out",
     }
 }
 

@@ -48,9 +48,9 @@ fn record_or_lack<K: OpenJournal, J: Job, R: Wait + Clock, G>(
     Ok(())
 }
 
-/// Records what the desk has answered, and tells whom what is kept now concerns: nobody where there
-/// is no memory for that, who then hear it with the next tick. Before, and after a group that took
-/// long, a further word is asked for, if that is due.
+/// Records what the desk has answered, and tells whom what is kept now concerns beside who made it:
+/// nobody where there is no memory for that, who then hear it with the next tick. Before, and after
+/// a group that took long, a further word is asked for, if that is due.
 fn record<K: OpenJournal, J: Job, R: Wait + Clock, G>(
     worker: &Worker<'_, J, R, G>,
     recorder: &mut Recorder<K, J>,
@@ -59,8 +59,9 @@ fn record<K: OpenJournal, J: Job, R: Wait + Clock, G>(
     bells.words.renew(worker.rt, recorder)?;
     let before = recorder.kept();
     record_or_lack(worker, recorder)?;
+    let kept = recorder.kept();
     let mut news = Vec::new(worker.alloc);
-    if recorder.kept() > before {
+    if kept > before && bells.news.are_due(bells, kept) {
         if let Ok(found) = recorder.news_above(worker.rt, worker.alloc, worker.desk, before) {
             news = found;
         }
@@ -88,11 +89,43 @@ fn record_told<K: OpenJournal, J: Job, R: Wait + Clock, G>(
     recorded
 }
 
+/// Has an empty group put behind the last one, where that is a second old, and tells whoever looks
+/// meanwhile. Where memory lacks for that, or this moment can't be told, it is tried again later.
+fn cover_told<K: OpenJournal, J: Job, R: Clock, G>(
+    worker: &Worker<'_, J, R, G>,
+    recorder: &mut Recorder<K, J>,
+    bells: &Bells,
+) -> Result<(), KeepError> {
+    let board = worker.tallies.board();
+    if let Some(board) = board {
+        board.takes_journal();
+    }
+    bells.writes.store(true, Ordering::SeqCst);
+    let covered = recorder.cover_older(worker.rt, worker.alloc);
+    bells.writes.store(false, Ordering::SeqCst);
+    if let Some(board) = board {
+        board.leaves_journal();
+        board.has_written(recorder.bytes() as u64);
+    }
+    match covered {
+        Err(KeepError::Memory) => {
+            if let Some(board) = board {
+                board.note_lack(true);
+            }
+            Ok(())
+        }
+        Err(KeepError::Clock) => Ok(()),
+        covered => covered,
+    }
+}
+
 /// Once nobody has the journal's lock any more, wakes those that wait until more is kept, and
 /// spreads what is new.
 fn spread(bells: &Bells, news: &[News], by: u32) {
     bells.ring_waiting();
-    bells.news.spread(bells, news, by);
+    if !news.is_empty() {
+        bells.news.spread(bells, news, by);
+    }
 }
 
 /// Records what the desk has answered, for the worker with this bell, if nobody else does so now.
@@ -150,13 +183,14 @@ impl<'a, K: OpenJournal, J: Job, R: Wait + Clock, G> Scribe<'a, K, J, R, G> {
         }
     }
 
-    /// Looks whether the journal is where it was, takes the room that a record may need, and has a
-    /// further word asked for, if that is due.
+    /// Looks whether the journal is where it was, takes the room that a record may need, and has an
+    /// empty group put behind the last one, and a further word asked for, if these are due.
     fn look(&self) -> Result<(), KeepError> {
         let mut guard = self.recorder.lock(self.worker.rt);
         let recorder = &mut *guard;
         recorder.look()?;
         prepare(&self.worker, recorder);
+        cover_told(&self.worker, recorder, self.bells)?;
         self.bells.words.renew(self.worker.rt, recorder)
     }
 

@@ -9,7 +9,7 @@ ghost use Rattle.gu_command.specs.Faults.{is_keep_fault};
 ghost use Rattle.gu_connection.specs.Serving.{IsServed};
 
 use crate::running::{Polls, make_polls};
-use crate::shutter::{Shutter, Watched};
+use crate::shutter::Watched;
 use crate::threads::run_threads;
 use gu_board::{Board, Tallies, Teller, number, text};
 use gu_book::Book;
@@ -19,7 +19,7 @@ use gu_desk::{Ground, Job};
 use gu_limits::Limits;
 use gu_log::{Event, Key};
 use gu_parties::House;
-use gu_recorder::{Checksum, Journals, OpenJournal, close_desk, open_desk};
+use gu_recorder::{Checksum, Journals, OpenJournal, Shutter, close_desk, make_room, open_desk};
 use mio::net::TcpListener;
 use std::alloc::Global;
 use std::marker::Brand;
@@ -91,11 +91,13 @@ fn run_kept<K: OpenJournal + Drop + Send, J: Job + Send + Sync, R: Threads + Wai
     if let Some(board) = board {
         board.takes_journal();
     }
-    let book = close_desk(rt, alloc, desk, recorder.into_inner(), seats, board);
+    let closed = close_desk(rt, alloc, desk, recorder.into_inner(), seats, board);
     if let Some(board) = board {
         board.leaves_journal();
     }
-    book
+    let (book, journal) = closed?;
+    drop(journal);
+    Ok(book)
 }
 
 /// What is counted of the firms of a book, from now on.
@@ -163,7 +165,10 @@ fn listen<R: Net + Wait + Clock>(
         Err(error) => return Err(error),
     };
     hand_over(rt, &listener, watched)?;
-    match make_polls(rt, alloc, request.workers, request.is_replicated) {
+    let Ok(shutters) = Arc::try_clone(&watched.shutters) else {
+        return Err(KeepError::Memory);
+    };
+    match make_polls(rt, alloc, request.workers, request.is_replicated, shutters) {
         Ok(polls) => Ok(Entrance { listener, polls }),
         Err(error) => Err(error),
     }
@@ -218,7 +223,8 @@ fn let_go<K: OpenJournal + Drop>(book: Book, journal: K, error: KeepError) -> Ke
     error
 }
 
-/// Serves this book, which the journal says, on a port of 127.0.0.1.
+/// Serves this book, which the journal says, on a port of 127.0.0.1, once there is room for a
+/// group: till then nobody is taken in.
 fn serve_kept<K: OpenJournal + Drop + Send, R: Threads + Wait + Clock + Net + Sync>(
     rt: &R,
     alloc: Global,
@@ -233,12 +239,19 @@ fn serve_kept<K: OpenJournal + Drop + Send, R: Threads + Wait + Clock + Net + Sy
     requires house { K.house journal ≡ book.house }
     ensures { IfOk result (λ b. IsRunOf (stored book) (stored b)) }
 {
-    match listen(rt, alloc, request, watched) {
-        Ok(entrance) => {
-            serve_listener(rt, alloc, entrance, book, journal, request, &watched.board)
-        }
-        Err(error) => Err(let_go(book, journal, error)),
+    let entrance = match listen(rt, alloc, request, watched) {
+        Ok(entrance) => entrance,
+        Err(error) => return Err(let_go(book, journal, error)),
+    };
+    // Where the port is taken the journal stays as it is.
+    let mut journal = journal;
+    watched.board.takes_journal();
+    if let Err(error) = make_room(rt, &mut journal) {
+        drop(entrance);
+        return Err(let_go(book, journal, error));
     }
+    watched.board.has_written(journal.bytes() as u64);
+    serve_listener(rt, alloc, entrance, book, journal, request, &watched.board)
 }
 
 /// The fault of a server whose journal is at this path.
@@ -278,6 +291,13 @@ fn note_recovered<R: Wait + Clock>(
     board.warn(rt);
 }
 
+/// Warns of a journal that others may read.
+fn warn_of_others<R: Wait + Clock, K: OpenJournal>(rt: &R, board: &Board, journal: &K, path: &str) {
+    if journal.is_others() {
+        board.say(rt, Event::Readable, &[text(Key::Journal, path.as_bytes())]);
+    }
+}
+
 /// Opens the journal that is asked for. Its book has a key that nobody knows.
 fn open_journal<R: Wait + Clock + RandomSource, K: Journals>(
     rt: &R,
@@ -296,10 +316,11 @@ fn open_journal<R: Wait + Clock + RandomSource, K: Journals>(
     ensures fault { IfErr result (λ e. IsTrue (is_keep_fault e)) }
 {
     let key = new_key(rt);
+    let path = order.journal.as_str();
     let mut teller = Teller::new(rt, board);
     match journals.open(
         alloc,
-        order.journal.as_str(),
+        path,
         order.options.replica.as_deref(),
         text,
         house,
@@ -307,6 +328,7 @@ fn open_journal<R: Wait + Clock + RandomSource, K: Journals>(
         &mut teller,
     ) {
         Ok((book, journal)) => {
+            warn_of_others(rt, board, &journal, path);
             note_recovered(rt, board, &book, journal.checksum(), teller.millis());
             Ok((book, journal))
         }

@@ -1,12 +1,13 @@
 //! What an operator is told of a connection.
 
-use crate::said::{said_by, said_last, why_refused};
+use crate::said::{said_by, said_last, text_of_cause, why_refused};
 use gu_base::FirmId;
 use gu_board::{Board, Work, number, text};
 use gu_log::{Event, Key};
 use gu_parties::House;
 use gu_recorder::Wire;
-use gu_status::REASONS;
+use gu_session::Gap;
+use gu_status::{Cause, REASONS, REJECT_REASONS, REJECTS, SeenGap, is_due, seen_gap};
 use std::alloc::Global;
 use std::sync::Wait;
 use std::time::Clock;
@@ -23,10 +24,13 @@ pub(crate) struct Visit {
     /// The second in which it was taken.
     since: u64,
     /// What was read and called on it, the calls that were refused by the refusal's number, from 1
-    /// on, and how many bytes were sent.
+    /// on, the Rejects for each of the `REJECT_REASONS`, and how many bytes were sent.
     work: Work,
     reasons: [u64; REASONS],
+    rejects: [u64; REJECTS],
     sent: u64,
+    /// The gap in what its firm sends, if one was open when that was last looked at.
+    gap: Option<SeenGap>,
     /// Its first bytes, while it has no Logon.
     first: Vec<u8>,
     /// Whether the Logon was told.
@@ -45,17 +49,32 @@ fn peer_of(alloc: Global, wire: &Wire) -> String {
     String::new(alloc)
 }
 
+/// Appends that there were so many for a reason, if there were any, behind others.
+fn push_reason(alloc: Global, text: &mut String, reason: usize, count: u64) {
+    if count == 0 {
+        return;
+    }
+    let comma = if text.is_empty() { "" } else { "," };
+    if let Ok(told) = format!(in alloc; "{comma}{reason}:{count}") {
+        let _ = text.push_str(told.as_str());
+    }
+}
+
 /// How many calls were refused for each reason, by the refusal's number: as `3:1,14:2`.
 fn reasons_text(alloc: Global, reasons: &[u64; REASONS]) -> String {
     let mut text = String::new(alloc);
     for i in 0..REASONS {
-        if reasons[i] == 0 {
-            continue;
-        }
-        let comma = if text.is_empty() { "" } else { "," };
-        if let Ok(reason) = format!(in alloc; "{comma}{}:{}", i + 1, reasons[i]) {
-            let _ = text.push_str(reason.as_str());
-        }
+        push_reason(alloc, &mut text, i + 1, reasons[i]);
+    }
+    text
+}
+
+/// How many Rejects were sent for each reason, in the same way: as `1:1,5:2`.
+fn rejects_text(alloc: Global, rejects: &[u64; REJECTS]) -> String {
+    let mut text = String::new(alloc);
+    for i in 0..REJECTS {
+        let reason = usize::from(REJECT_REASONS[i]);
+        push_reason(alloc, &mut text, reason, rejects[i]);
     }
     text
 }
@@ -73,7 +92,9 @@ impl Visit {
             since: second,
             work: Work::default(),
             reasons: [0; REASONS],
+            rejects: [0; REJECTS],
             sent: 0,
+            gap: None,
             first: Vec::new(alloc),
             is_told: false,
             why: String::new(alloc),
@@ -93,6 +114,9 @@ impl Visit {
         self.work = self.work.with(done);
         if done.refused > 0 {
             board.hand_over(worker, &mut self.reasons);
+        }
+        if done.rejected > 0 {
+            board.hand_rejects(worker, &mut self.rejects);
         }
         if !self.is_told && self.first.len() < MOST_FIRST {
             let room = MOST_FIRST - self.first.len();
@@ -159,6 +183,34 @@ impl Visit {
         board.say(rt, Event::LoggedOn, &fields[..count]);
     }
 
+    /// Looks in this second at the gap that is open in what its firm sends, if one is, and says so
+    /// where that is due.
+    pub(crate) fn look_at_gap<R: Wait + Clock>(
+        &mut self,
+        rt: &R,
+        board: &Board,
+        firm: &FirmId,
+        gap: Option<Gap>,
+        second: u64,
+    ) {
+        let Some(gap) = gap else {
+            self.gap = None;
+            return;
+        };
+        let mut seen = seen_gap(self.gap, gap.expected, gap.highest, second);
+        if is_due(&seen, second) {
+            seen.told = Some(second);
+            let fields = [
+                number(Key::Connection, self.number),
+                text(Key::Firm, firm.as_bytes()),
+                number(Key::Expected, u64::from(gap.expected)),
+                number(Key::Seconds, second.saturating_sub(seen.since)),
+            ];
+            board.say(rt, Event::Gap, &fields);
+        }
+        self.gap = Some(seen);
+    }
+
     /// Says that it has ended in this second without a Logon that was accepted, and why.
     pub(crate) fn say_refusal<R: Wait + Clock>(
         &self,
@@ -168,11 +220,17 @@ impl Visit {
         second: u64,
     ) {
         let first = self.first.as_slice();
-        let why = if self.why.is_empty() {
+        let cause = if self.why.is_empty() {
             why_refused(house, first)
+        } else {
+            Cause::LoggedOut
+        };
+        let why = if self.why.is_empty() {
+            text_of_cause(cause)
         } else {
             self.why.as_str()
         };
+        board.refuses_logon(cause);
         let fields = [
             number(Key::Connection, self.number),
             text(Key::Peer, self.peer.as_bytes()),
@@ -199,6 +257,7 @@ impl Visit {
             None => self.why(),
         };
         let reasons = reasons_text(board.alloc(), &self.reasons);
+        let rejects = rejects_text(board.alloc(), &self.rejects);
         let fields = [
             number(Key::Connection, self.number),
             text(Key::Firm, firm.as_bytes()),
@@ -208,6 +267,11 @@ impl Visit {
             number(Key::Repeated, self.work.repeated),
             number(Key::Refused, self.work.refused),
             text(Key::RefusedBy, reasons.as_bytes()),
+            number(Key::Rejects, self.work.rejected),
+            text(Key::RejectsBy, rejects.as_bytes()),
+            number(Key::Garbled, self.work.garbled),
+            number(Key::Dropped, self.work.dropped),
+            number(Key::Resent, self.work.resent),
             number(Key::BytesIn, self.work.read),
             number(Key::BytesOut, self.sent),
             text(Key::Why, why.as_bytes()),

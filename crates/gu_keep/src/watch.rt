@@ -12,8 +12,7 @@ ghost use Rattle.gu_connection.specs.Serving.{IsServed};
 ghost use Rattle.gu_keep.specs.Keeping.{Keeps};
 
 use crate::pages::listen_at;
-use crate::privacy::guard;
-use crate::shutter::{Shutter, Watched};
+use crate::shutter::{Shutters, Watched};
 use crate::starting::keep_port;
 use crate::stepping::ClockWatch;
 use crossbeam_channel::{Receiver, RecvTimeoutError, Sender};
@@ -23,7 +22,7 @@ use gu_book::Book;
 use gu_command::{Fault, KeepError, Order, StatusAt};
 use gu_log::{Event, Key};
 use gu_parties::House;
-use gu_recorder::Journals;
+use gu_recorder::{Journals, Shutter};
 use gu_status::Part;
 use std::alloc::Global;
 use std::io::Eprint;
@@ -46,8 +45,8 @@ type Tie = (Tied, Watching);
 /// and where it hands over what the watch can shut.
 type Tied = (Sender<u8>, Watched);
 
-/// What the watch has: the other ends.
-type Watching = (Receiver<u8>, Receiver<Shutter>);
+/// What the watch has: the other ends, and what it can shut of connections.
+type Watching = (Receiver<u8>, Receiver<Shutter>, Arc<Shutters>);
 
 /// That a server of this house gives a book back that calls made of the opening one, or a fault of
 /// its own.
@@ -131,7 +130,7 @@ fn keep_beside<
     ensures served { IfOk result (λ b. IsServed house (stored b)) }
     ensures fault { IfErr result (λ e. IsTrue (is_keep_fault e)) }
 {
-    let ((running, watched), (ended, shutters)) = tie;
+    let ((running, watched), (ended, shutters, connections)) = tie;
     let promise = OfHouse(Snapshot::of(&house));
     let there = *rt;
     let server = move ||
@@ -153,6 +152,7 @@ fn keep_beside<
             if let Ok(shutter) = shutters.try_recv(rt) {
                 shutter.shut();
             }
+            connections.shut_all(rt);
             Err(Fault::Keep(KeepError::Stuck))
         }
     }
@@ -220,13 +220,22 @@ fn open_told<
         + 'static,
 >(rt: &R, alloc: Global, order: &Order, board: &Arc<Board>) -> Result<Tie, KeepError> {
     open_pages(rt, alloc, order, board)?;
+    let Ok(connections) = Arc::new(alloc, Shutters::new(alloc)) else {
+        return Err(KeepError::Memory);
+    };
     match (
         crossbeam_channel::bounded::<u8, Global>(alloc, 1),
         crossbeam_channel::bounded::<Shutter, Global>(alloc, 1),
         Arc::try_clone(board),
+        Arc::try_clone(&connections),
     ) {
-        (Ok((running, ended)), Ok((to, shutters)), Ok(board)) => {
-            Ok(((running, Watched { board, to }), (ended, shutters)))
+        (Ok((running, ended)), Ok((to, listeners)), Ok(board), Ok(shutters)) => {
+            let watched = Watched {
+                board,
+                to,
+                shutters,
+            };
+            Ok(((running, watched), (ended, listeners, connections)))
         }
         _ => Err(KeepError::Memory),
     }
@@ -279,7 +288,7 @@ fn open_board<R: Threads + Wait + Eprint + Copy + Send + Sync + 'static>(
     }
 }
 
-/// Guards the journal, opens the pages that an order asks for, and serves, on a thread of its own.
+/// Opens the pages that an order asks for, and serves, on a thread of its own.
 fn keep_told<
     R: Threads
         + Wait
@@ -305,7 +314,6 @@ fn keep_told<
     ensures served { IfOk result (λ b. IsServed house (stored b)) }
     ensures fault { IfErr result (λ e. IsTrue (is_keep_fault e)) }
 {
-    guard(rt, board, order.journal.as_str());
     match open_told(rt, alloc, &order, board) {
         Ok(tie) => keep_beside(rt, alloc, journals, text, house, order, board, tie),
         Err(error) => {

@@ -5,7 +5,7 @@ use Rattle.gu_base.specs.Limits.{most_entries}
 use Rattle.gu_limits.specs.declared.ending.Ending.{Ending}
 use Rattle.gu_limits.specs.declared.ending.Ending.TheVariants.{Entries, Parts, Reserve, Memory}
 use Rattle.gu_limits.specs.declared.ending.Ending.TheVariants.{NoMemory, Held, Connections}
-use Rattle.gu_limits.specs.declared.ending.Ending.TheVariants.{Silence}
+use Rattle.gu_limits.specs.declared.ending.Ending.TheVariants.{Silence, Stops, Refused, PutOut}
 use Rattle.gu_limits.specs.declared.limits.Limits.{Limits}
 use Rattle.gu_limits.specs.declared.size.Size.{Size}
 use Rattle.gu_limits.specs.Size.{memory_of, with_call}
@@ -88,6 +88,9 @@ text_of NoMemory = codes "no memory left"
 text_of Held = codes "too much waits"
 text_of Connections = codes "too many connections"
 text_of Silence = codes "no heartbeat"
+text_of Stops = codes "server stops"
+text_of Refused = codes "refused by an operator"
+text_of PutOut = codes "put out by an operator"
 
 -- the bytes that one has at most
 abbrev pub most_text : ℕ

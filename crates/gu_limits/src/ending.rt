@@ -22,11 +22,17 @@ pub enum Ending {
     Connections,
     /// The firm has said nothing for too long.
     Silence,
+    /// The server stops.
+    Stops,
+    /// An operator lets the firm in no more.
+    Refused,
+    /// An operator has put the firm out.
+    PutOut,
 }
 
 impl Ending {
-    /// All of them.
-    pub const ALL: [Ending; 8] = [
+    /// Those of a limit.
+    pub const OF_LIMITS: [Ending; 8] = [
         Ending::Entries,
         Ending::Parts,
         Ending::Reserve,
@@ -51,6 +57,9 @@ impl Ending {
             Ending::Held => "too much waits",
             Ending::Connections => "too many connections",
             Ending::Silence => "no heartbeat",
+            Ending::Stops => "server stops",
+            Ending::Refused => "refused by an operator",
+            Ending::PutOut => "put out by an operator",
         }
     }
 }

@@ -7,6 +7,7 @@
 //!   the house's.
 //! - A `Size` is how large a book is, and tells about how much memory it takes.
 //! - An `Ending` is why a connection is closed beside its session, and what its Logout says.
+//! - `Said` is what an operator has said of a firm's connections, and decides which ones end.
 //! - A pace is a moment, until which a firm has had its rate.
 //! - A turn ends, and the connections of a firm share the time of one.
 //!
@@ -16,11 +17,13 @@
 mod ending;
 mod limits;
 mod pace;
+mod said;
 mod size;
 mod turn;
 
 pub use ending::Ending;
 pub use limits::{Limits, is_silent};
 pub use pace::{counted, is_ahead};
+pub use said::Said;
 pub use size::Size;
 pub use turn::{is_spent, share_left};

@@ -22,6 +22,10 @@ pub enum Event {
     Ended,
     /// A firm's call was answered.
     Called,
+    /// A firm's message was answered by a Reject.
+    Rejected,
+    /// Messages of a firm have lacked for long.
+    Gap,
     /// A group was long on its way to the disk.
     SlowSync,
     /// The book is nearly full.
@@ -40,13 +44,19 @@ pub enum Event {
     ClockStepped,
     /// Others may read the journal.
     Readable,
+    /// An operator has said: that the server is to stop, that a firm's connections are to end, that
+    /// it isn't to be let in, and that it is again.
+    Drains,
+    Disconnects,
+    Refuses,
+    Admits,
     /// The server ends.
     Stopped,
 }
 
 impl Event {
     /// All of them.
-    pub const ALL: [Event; 18] = [
+    pub const ALL: [Event; 24] = [
         Event::Started,
         Event::Recovering,
         Event::Recovered,
@@ -55,6 +65,8 @@ impl Event {
         Event::LogonRefused,
         Event::Ended,
         Event::Called,
+        Event::Rejected,
+        Event::Gap,
         Event::SlowSync,
         Event::BookFills,
         Event::ShareFills,
@@ -64,6 +76,10 @@ impl Event {
         Event::Stuck,
         Event::ClockStepped,
         Event::Readable,
+        Event::Drains,
+        Event::Disconnects,
+        Event::Refuses,
+        Event::Admits,
         Event::Stopped,
     ];
 
@@ -80,6 +96,8 @@ impl Event {
             Event::LogonRefused => "logon_refused",
             Event::Ended => "ended",
             Event::Called => "called",
+            Event::Rejected => "rejected",
+            Event::Gap => "gap",
             Event::SlowSync => "slow_sync",
             Event::BookFills => "book_fills",
             Event::ShareFills => "share_fills",
@@ -89,6 +107,10 @@ impl Event {
             Event::Stuck => "stuck",
             Event::ClockStepped => "clock_stepped",
             Event::Readable => "readable",
+            Event::Drains => "drains",
+            Event::Disconnects => "disconnects",
+            Event::Refuses => "refuses",
+            Event::Admits => "admits",
             Event::Stopped => "stopped",
         }
     }
@@ -103,7 +125,7 @@ pub enum Key {
     /// The path of the house file, and the SHA-256 of its bytes.
     House,
     HouseDigest,
-    /// The path of the journal, and the SHA-512 of its bytes but for what shuts it.
+    /// The path of the journal, and the SHA-512 of its bytes that count.
     Journal,
     JournalDigest,
     /// The port that is listened on.
@@ -163,6 +185,19 @@ pub enum Key {
     Repeated,
     Refused,
     RefusedBy,
+    /// How many Rejects were sent, and of these how many for each reason.
+    Rejects,
+    RejectsBy,
+    /// How many frames were garbled, and messages dropped for a gap, or sent again.
+    Garbled,
+    Dropped,
+    Resent,
+    /// The type of a rejected message, and the tag and the reason of its Reject.
+    Type,
+    Tag,
+    Reason,
+    /// The number of the first message that lacks.
+    Expected,
     /// Why it is so.
     Why,
     /// Which part of the server.
@@ -225,6 +260,15 @@ impl Key {
             Key::Repeated => "repeated",
             Key::Refused => "refused",
             Key::RefusedBy => "refused_by",
+            Key::Rejects => "rejects",
+            Key::RejectsBy => "rejects_by",
+            Key::Garbled => "garbled",
+            Key::Dropped => "dropped",
+            Key::Resent => "resent",
+            Key::Type => "type",
+            Key::Tag => "tag",
+            Key::Reason => "reason",
+            Key::Expected => "expected",
             Key::Why => "why",
             Key::Part => "part",
             Key::Of => "of",

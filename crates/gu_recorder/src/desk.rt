@@ -14,7 +14,8 @@ use std::alloc::Global;
 use std::sync::Wait;
 use std::time::Clock;
 
-/// The recorder of a journal that says what the desk opened with.
+/// The recorder of a journal that says what the desk opened with, and whose last group has an empty
+/// one behind it.
 fn begin<K: OpenJournal, J: Job>(
     alloc: Global,
     desk: &Desk<J>,
@@ -33,10 +34,13 @@ fn begin<K: OpenJournal, J: Job>(
         seat,
         failed: false,
         room: Vec::new(alloc),
+        is_bare: false,
+        since: None,
     }
 }
 
 /// A desk over this ground, its seats, and the recorder of a journal that says what it opened with.
+/// `make_room` has put an empty group behind that.
 pub fn open_desk<K: OpenJournal + Drop, J: Job>(
     alloc: Global,
     ground: Ground,
@@ -62,7 +66,45 @@ pub fn open_desk<K: OpenJournal + Drop, J: Job>(
     Ok((desk, seats, recorder))
 }
 
-/// Gives the book back, once all of it is recorded, also what was answered to nobody.
+/// The book of a desk and its journal, where that keeps all of the book.
+fn end<K: OpenJournal + Drop, J: Job>(
+    desk: Desk<J>,
+    recorder: Recorder<K, J>,
+    seats: Vec<Seat<J>>,
+) -> Result<(Book, K), KeepError>
+    ensures run { IfOk result (λ r. IsRunOf J.opening (stored r.0)) }
+    ensures kept { IfOk result (λ r. K.Keeps.keeps r.1 r.0.history) }
+{
+    let Recorder {
+        journal,
+        mut seat,
+        failed: _,
+        room: _,
+        is_bare: _,
+        since: _,
+    } = recorder;
+    let book = match desk.close_seen(seats, &mut seat) {
+        Ok(book) => book,
+        Err(left) => {
+            drop(left);
+            drop(journal);
+            return Err(KeepError::NoThread);
+        }
+    };
+    if seat.kept() < seat.seen() {
+        drop(book);
+        drop(journal);
+        return Err(KeepError::Failed);
+    }
+    Ok((book, journal))
+}
+
+/// Gives the book back, and the journal, which keeps all of it, also what was answered to nobody.
+///
+/// # Errors
+///
+/// As `Recorder::record` says; `NoThread` where a seat is missing, and `Failed` where the journal
+/// doesn't keep all.
 pub fn close_desk<K: OpenJournal + Drop, J: Job, R: Wait + Clock>(
     rt: &R,
     alloc: Global,
@@ -70,19 +112,18 @@ pub fn close_desk<K: OpenJournal + Drop, J: Job, R: Wait + Clock>(
     recorder: Recorder<K, J>,
     seats: Vec<Seat<J>>,
     board: Option<&Board>,
-) -> Result<Book, KeepError>
-    ensures { IfOk result (λ b. IsRunOf J.opening (stored b)) }
+) -> Result<(Book, K), KeepError>
+    ensures run { IfOk result (λ r. IsRunOf J.opening (stored r.0)) }
+    ensures kept { IfOk result (λ r. K.Keeps.keeps r.1 r.0.history) }
 {
     let mut recorder = recorder;
     if let Err(error) = recorder.record(rt, alloc, &desk, board) {
         drop(desk);
         return Err(error);
     }
-    match desk.close(seats) {
-        Ok(book) => Ok(book),
-        Err(left) => {
-            drop(left);
-            Err(KeepError::NoThread)
-        }
+    if let Err(error) = recorder.cover(rt, alloc) {
+        drop(desk);
+        return Err(error);
     }
+    end(desk, recorder, seats)
 }

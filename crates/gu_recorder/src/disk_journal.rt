@@ -6,7 +6,7 @@ ghost use Rattle.gu_base.specs.House.{House as HouseTable};
 ghost use Rattle.gu_base.specs.Runs.{IsRunFrom, opening_history};
 ghost use Rattle.gu_base.specs.declared.entry.Entry.{Entry as EntryData};
 ghost use Rattle.gu_book.specs.Seen.{stored};
-ghost use Rattle.gu_journal.specs.Keeping.{disk_of, IsIdle, Keeps};
+ghost use Rattle.gu_journal.specs.Keeping.{disk_of, Keeps};
 ghost use Rattle.gu_journal.specs.Session.{digest_text};
 ghost use Rattle.gu_recorder.specs.Replicas.{HasAnswered, HasWord};
 ghost use Rattle.gu_command.specs.declared.errors.RecordError.TheVariants as RecordError;
@@ -14,7 +14,7 @@ ghost use Rattle.gu_journal.specs.declared.error.JournalError.TheVariants as Jou
 
 use crate::journals::{Checksum, OpenJournal};
 use crate::place::Place;
-use crate::replica::{Replica, allowed, answered, offered, waited};
+use crate::replica::{Offer, Replica, allowed, answered, offered, waited};
 use gu_base::{Entry, Memory};
 use gu_book::{Book, HashKey};
 use gu_command::RecordError;
@@ -26,13 +26,15 @@ use gu_parties::House;
 use sqlite_disk::Disk;
 use std::alloc::Global;
 
-/// A journal over a disk, the house table of its house, the line to other machines, if they are to
-/// have it too, and where its file stands, if it has one.
+/// A journal over a disk, the house table of its house, the digest of the house file, the line to
+/// other machines, if they are to have it too, and where its file stands, if it has one.
 #[derive(Drop)]
 pub struct DiskJournal<D: Disk> {
     /// The journal, whose clauses say what a crash leaves.
     pub journal: Journal<D>,
     pub(crate) house: House,
+    /// The digest of the house file, which the journal's head has.
+    pub pin: HouseDigest,
     pub(crate) replica: Option<Replica>,
     pub(crate) place: Option<Place>,
 }
@@ -43,7 +45,7 @@ impl<D: Disk> Keeps for DiskJournal<D> {
     ghost use Rattle.gu_recorder.specs.DiskJournals.{IsKept};
 
     ghost keeps = { λ k h. IsTrue (D.Disk.is_clean (disk_of k.journal))
-        → IsKept D.Disk.may_leave k.house h (disk_of k.journal) k.replica };
+        → IsKept D.Disk.may_leave k.house k.pin.bytes h (disk_of k.journal) k.replica };
 }
 
 /// Why a journal's fault keeps entries from being recorded.
@@ -60,24 +62,24 @@ fn cause(error: JournalError) -> RecordError
 
 impl<D: Disk> OpenJournal for DiskJournal<D> {
     ghost use Rattle.std.specs.Prelude.{IsTrue};
-    ghost use Rattle.gu_journal.specs.Keeping.{disk_of, IsIdle};
+    ghost use Rattle.gu_journal.specs.Keeping.{disk_of};
     ghost use Rattle.gu_recorder.specs.DiskJournals.{IsSaid, said_is_kept, begun_is_kept};
     ghost use Rattle.gu_recorder.specs.Replicas.{HasWord};
 
     ghost house = { λ k. k.house };
 
-    ghost takes = { λ k. IsTrue (D.Disk.is_usable (disk_of k.journal)) × IsIdle k.journal };
+    ghost takes = { λ k. IsTrue (D.Disk.is_usable (disk_of k.journal)) };
 
     ghost says = { λ k h. IsTrue (D.Disk.is_clean (disk_of k.journal))
-        → IsSaid D.Disk.seen D.Disk.may_leave k.house h k.journal k.replica };
+        → IsSaid D.Disk.seen D.Disk.may_leave k.house k.pin.bytes h k.journal k.replica };
 
     ghost has_word = { λ k. HasWord k.replica };
 
     ghost keeps_all = { λ k h said is_clean. said_is_kept
-        D.Disk.seen D.Disk.may_leave k.house h k.journal k.replica (said is_clean) };
+        D.Disk.seen D.Disk.may_leave k.house k.pin.bytes h k.journal k.replica (said is_clean) };
 
-    ghost keeps_begun = { λ k h begun longer kept is_clean. begun_is_kept
-        D.Disk.may_leave k.house h begun (disk_of k.journal) k.replica longer (kept is_clean) };
+    ghost keeps_begun = { λ k h begun longer kept is_clean. begun_is_kept D.Disk.may_leave
+        k.house k.pin.bytes h begun (disk_of k.journal) k.replica longer (kept is_clean) };
 
     fn checksum(&self) -> Option<Checksum>
         ensures { (t : HouseTable) (pin : List ℕ) (h : List EntryData)
@@ -108,20 +110,30 @@ impl<D: Disk> OpenJournal for DiskJournal<D> {
         }
     }
 
-    // Other machines take the group while it is opened here.
+    fn is_others(&self) -> bool {
+        match &self.place {
+            Some(place) => place.is_others(),
+            None => false,
+        }
+    }
+
+    // Other machines are offered the group while it is synced here, and have to have it too.
     fn record(&mut self, moment: &[u8], entries: &[Entry]) -> Result<(), RecordError> {
-        match self.journal.stage(moment, entries) {
+        let more = u32::try_from(entries.len()).unwrap_or(u32::MAX);
+        let before = self.journal.entries();
+        let mut offer = Offer {
+            replica: &self.replica,
+            entries: before.saturating_add(more),
+            is_made: false,
+        };
+        match self.journal.commit(moment, entries, &mut offer) {
             Ok(()) => {}
             Err(error) => return Err(cause(error)),
         }
-        let count = self.journal.entries();
-        if !offered(&self.replica, count, self.journal.len()) {
+        if !offer.is_made {
             return Err(RecordError::Replica);
         }
-        match self.journal.open() {
-            Ok(()) => {}
-            Err(error) => return Err(cause(error)),
-        }
+        let count = self.journal.entries();
         if answered(&mut self.replica, count) {
             Ok(())
         } else {
@@ -140,14 +152,17 @@ impl<D: Disk + Drop> DiskJournal<D> {
         alloc: Global,
         book: &Book,
         journal: Journal<D>,
+        pin: HouseDigest,
     ) -> Result<DiskJournal<D>, Memory>
         ensures journal { IfOk result (λ f. f.journal ≡ journal) }
+        ensures pin { IfOk result (λ f. f.pin ≡ pin) }
         ensures house { IfOk result (λ f. f.house ≡ (stored book.now).house) }
     {
         match book.house().copy(alloc) {
             Ok(house) => Ok(DiskJournal {
                 journal,
                 house,
+                pin,
                 replica: None,
                 place: None,
             }),
@@ -172,16 +187,16 @@ impl<D: Disk + Drop> DiskJournal<D> {
         requires durable { Only (D.Disk.seen disk) (D.Disk.may_leave disk) }
         requires usable { IsTrue (D.Disk.is_usable disk) }
         ensures house { IfOk result (λ r. r.1.house ≡ house) }
+        ensures pin { IfOk result (λ r. r.1.pin ≡ pin.now) }
         ensures book { IfOk result (λ r. r.0.house ≡ house) }
         ensures run { IfOk result (λ r. IsRunFrom house (opening_history house) r.0.history) }
         ensures says { IfOk result (λ r. IsTrue (D.Disk.is_clean (disk_of r.1.journal))
-            → (pin : List ℕ)
-            × Keeps D.Disk.seen D.Disk.may_leave r.1.house pin r.0.history r.1.journal) }
-        ensures takes { IfOk result (λ r.
-            IsTrue (D.Disk.is_usable (disk_of r.1.journal)) × IsIdle r.1.journal) }
+            → Keeps D.Disk.seen D.Disk.may_leave
+            r.1.house r.1.pin.bytes r.0.history r.1.journal) }
+        ensures takes { IfOk result (λ r. IsTrue (D.Disk.is_usable (disk_of r.1.journal))) }
     {
         match recover(alloc, disk, house, key, pin, moment, progress) {
-            Ok(Recovered { book, journal }) => match DiskJournal::new(alloc, &book, journal) {
+            Ok(Recovered { book, journal }) => match DiskJournal::new(alloc, &book, journal, *pin) {
                 Ok(kept) => Ok((book, kept)),
                 Err(_) => {
                     drop(book);
@@ -199,6 +214,7 @@ impl<D: Disk + Drop> DiskJournal<D> {
     pub(crate) fn replicated(self, replica: Option<Replica>) -> Option<DiskJournal<D>>
         ensures journal { IfSome result (λ f. f.journal ≡ self.journal) }
         ensures house { IfSome result (λ f. f.house ≡ self.house) }
+        ensures pin { IfSome result (λ f. f.pin ≡ self.pin) }
         ensures answered { IfSome result (λ f. (t : HouseTable) (pin : List ℕ) (h : List EntryData)
             → Keeps D.Disk.seen D.Disk.may_leave t pin h f.journal
             → HasAnswered f.replica (length h)) }
@@ -223,6 +239,7 @@ impl<D: Disk + Drop> DiskJournal<D> {
             house,
             replica,
             place,
+            ..
         } = self;
         drop(house);
         drop(replica);

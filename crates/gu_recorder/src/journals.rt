@@ -11,7 +11,7 @@ use std::alloc::Global;
 /// A checksum of a journal's file.
 #[derive(Clone, Copy)]
 pub struct Checksum {
-    /// How many bytes it has but for what shuts it.
+    /// How many bytes count.
     pub bytes: usize,
     /// Their SHA-512 in hex digits.
     pub sha512: [u8; 128],
@@ -73,13 +73,19 @@ pub trait OpenJournal: Keeps {
         true
     }
 
+    /// Whether others than its owner and group might read its file, if it has one, when that was
+    /// opened.
+    fn is_others(&self) -> bool {
+        false
+    }
+
     /// For how many microseconds the last record has waited for other machines behind its disk.
     /// None where there are none.
     fn waited(&self) -> Option<u64> {
         None
     }
 
-    /// How many bytes its file has, but for what shuts it; 0 where it has no file.
+    /// How many bytes of its file count; 0 where it has no file.
     fn bytes(&self) -> usize {
         0
     }

@@ -8,6 +8,7 @@
 //! - `SystemJournals` opens the journal of a path.
 #![tactic(auto)]
 
+mod beginning;
 mod desk;
 mod disk_journal;
 mod journals;
@@ -16,6 +17,9 @@ mod outbox;
 mod place;
 mod recorder;
 mod replica;
+mod room;
+mod shutter;
+mod standing;
 mod system;
 mod wire;
 
@@ -25,5 +29,7 @@ pub use journals::{Checksum, Journals, OpenJournal};
 pub use made::MadeByte;
 pub use outbox::{Outbox, Rest};
 pub use recorder::Recorder;
+pub use room::make_room;
+pub use shutter::Shutter;
 pub use system::SystemJournals;
 pub use wire::Wire;

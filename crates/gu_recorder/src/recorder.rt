@@ -19,6 +19,9 @@ use std::marker::Model;
 use std::sync::Wait;
 use std::time::{Clock, Instant};
 
+/// After how many milliseconds the last group has an empty one behind it, if no other comes.
+const COVERED_AFTER: u128 = 1_000;
+
 /// A journal, and its seat at the desk. Once the journal has failed nothing more is recorded.
 ///
 /// Contracts see the journal, and what its seat sees. Whenever the lock is free the journal keeps
@@ -30,6 +33,10 @@ pub struct Recorder<K: OpenJournal, J: Job> {
     pub(crate) failed: bool,
     /// Room that is given back where memory lacks for a record, so that the next try has it.
     pub(crate) room: Vec<u8>,
+    /// Whether the last group has no empty one behind it.
+    pub(crate) is_bare: bool,
+    /// When that was recorded; none at first.
+    pub(crate) since: Option<Instant>,
 }
 
 impl<K: OpenJournal, J: Job> Model for Recorder<K, J> {
@@ -232,6 +239,8 @@ impl<K: OpenJournal, J: Job> Recorder<K, J> {
         let start = Instant::now(rt).ok();
         match self.journal.record(sent.as_bytes(), entries.as_slice()) {
             Ok(()) => {
+                self.is_bare = true;
+                self.since = Instant::now(rt).ok();
                 let (waited, bytes) = (self.journal.waited(), self.journal.bytes());
                 count_group(rt, board, start, waited, entries.as_slice(), bytes);
                 desk.confirm(&mut self.seat, &self.journal);
@@ -243,5 +252,60 @@ impl<K: OpenJournal, J: Job> Recorder<K, J> {
                 Err(KeepError::Record(error))
             }
         }
+    }
+
+    /// Records an empty group where the last one has none behind it: rot that makes a zero of a
+    /// byte of the last one is seen then. Nobody waits for it, and nobody is told.
+    ///
+    /// # Errors
+    ///
+    /// As `record`.
+    pub(crate) fn cover<R: Clock>(&mut self, rt: &R, alloc: Global) -> Result<(), KeepError>
+        ensures seen { self.new.seen ≡ self.old.seen }
+        ensures kept { self.new.kept ≡ self.old.kept }
+    {
+        if self.failed {
+            return Err(KeepError::Failed);
+        }
+        if !self.is_bare {
+            return Ok(());
+        }
+        let Some(sent) = moment(rt) else {
+            return Err(KeepError::Clock);
+        };
+        if let Err(error) = self.journal.record(sent.as_bytes(), &[]) {
+            if let RecordError::Memory = error {
+                return Err(self.give_back(alloc));
+            }
+            self.failed = true;
+            return Err(KeepError::Record(error));
+        }
+        self.is_bare = false;
+        Ok(())
+    }
+
+    /// The same, once a second has passed since the last group.
+    ///
+    /// # Errors
+    ///
+    /// As `record`.
+    pub fn cover_older<R: Clock>(&mut self, rt: &R, alloc: Global) -> Result<(), KeepError>
+        ensures seen { self.new.seen ≡ self.old.seen }
+        ensures kept { self.new.kept ≡ self.old.kept }
+    {
+        if let Some(since) = self.since {
+            let Ok(passed) = since.elapsed(rt) else {
+                return Err(KeepError::Clock);
+            };
+            if passed.as_millis() < COVERED_AFTER {
+                return Ok(());
+            }
+        }
+        self.cover(rt, alloc)
+    }
+
+    /// How many bytes of the journal's file count; 0 where it has no file.
+    pub fn bytes(&self) -> usize {
+        self.journal.bytes()
     }
 }

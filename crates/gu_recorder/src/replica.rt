@@ -9,6 +9,7 @@ ghost use Rattle.std.specs.Prelude.{◌≡◌, ℕ, true, false, IfSome};
 ghost use Rattle.std.specs.Io.KnownBytes.{Consumes};
 ghost use Rattle.gu_recorder.specs.Replicas.{answer_of, may_go, HasAnswered, HasWord};
 
+use gu_journal::Meanwhile;
 use std::alloc::Global;
 use std::io;
 use std::io::{Read, Write};
@@ -157,6 +158,22 @@ pub(crate) fn offered(replica: &Option<Replica>, entries: u32, bytes: usize) -> 
     match replica {
         Some(replica) => replica.offer(entries, bytes),
         None => true,
+    }
+}
+
+/// Offers a group to other machines, if they are to have it, while it is synced here.
+#[derive(Clone, Copy)]
+pub(crate) struct Offer<'a> {
+    pub(crate) replica: &'a Option<Replica>,
+    /// How many entries the journal has with it.
+    pub(crate) entries: u32,
+    /// Whether it was offered.
+    pub(crate) is_made: bool,
+}
+
+impl Meanwhile for Offer<'_> {
+    fn written(&mut self, len: usize) {
+        self.is_made = offered(self.replica, self.entries, len);
     }
 }
 

@@ -1,15 +1,18 @@
 //! Journals in the files of the system.
 
 ghost use Rattle.std.specs.Prelude.{◌≡◌, ℕ, List, IsTrue, IfOk, IfErr};
+ghost use Rattle.gu_base.specs.Runs.{IsRunFrom, opening_history};
 ghost use Rattle.gu_journal.specs.Keeping.{disk_of, Keeps};
 ghost use Rattle.gu_recorder.specs.DiskJournals.{IsSaid};
 ghost use Rattle.gu_command.specs.Faults.{is_keep_fault};
 
+use crate::beginning::Name;
 use crate::disk_journal::DiskJournal;
 use crate::journals::Journals;
 use crate::place::Place;
 use crate::recorder::moment;
 use crate::replica::Replica;
+use crate::standing::PlaceError;
 use gu_book::{Book, HashKey};
 use gu_command::{Fault, KeepError, RecordError, fault_at};
 use gu_journal::{HouseDigest, OpenError, Progress, RecoverError, open_file};
@@ -41,6 +44,16 @@ fn unopened(alloc: Global, path: &str, error: OpenError) -> Fault
 {
     match error {
         OpenError::Memory => Fault::Keep(KeepError::Memory),
+        error => fault_at(alloc, path, error),
+    }
+}
+
+/// What is said of what stands in a journal's place, or beside it.
+fn unplaced(alloc: Global, path: &str, error: PlaceError) -> Fault
+    ensures { IsTrue (is_keep_fault result) }
+{
+    match error {
+        PlaceError::Open(error) => unopened(alloc, path, error),
         error => fault_at(alloc, path, error),
     }
 }
@@ -88,13 +101,13 @@ fn replicated<D: Disk + Drop>(
     replica: Option<Replica>,
     place: Place,
 ) -> Result<(Book, DiskJournal<D>), Fault>
-    requires says { IsTrue (D.Disk.is_clean (disk_of kept.journal)) → (pin : List ℕ)
-        × Keeps D.Disk.seen D.Disk.may_leave kept.house pin book.history kept.journal }
+    requires says { IsTrue (D.Disk.is_clean (disk_of kept.journal)) → Keeps D.Disk.seen
+        D.Disk.may_leave kept.house kept.pin.bytes book.history kept.journal }
     ensures book { IfOk result (λ r. r.0 ≡ book) }
     ensures house { IfOk result (λ r. r.1.house ≡ kept.house) }
     ensures journal { IfOk result (λ r. r.1.journal ≡ kept.journal) }
     ensures says { IfOk result (λ r. IsTrue (D.Disk.is_clean (disk_of r.1.journal)) → IsSaid
-        D.Disk.seen D.Disk.may_leave r.1.house r.0.history r.1.journal r.1.replica) }
+        D.Disk.seen D.Disk.may_leave r.1.house r.1.pin.bytes r.0.history r.1.journal r.1.replica) }
     ensures fault { IfErr result (λ e. IsTrue (is_keep_fault e)) }
 {
     match kept.replicated(replica) {
@@ -107,6 +120,156 @@ fn replicated<D: Disk + Drop>(
             drop(book);
             drop(place);
             Err(fault_at(alloc, path, RecordError::Replica))
+        }
+    }
+}
+
+/// What a journal is opened by: its path, the key of its book, the digest of the house file, and
+/// the moment that a head has which it may lack.
+#[derive(Clone, Copy)]
+struct Asked<'a> {
+    path: &'a str,
+    key: HashKey,
+    pin: HouseDigest,
+    moment: &'a [u8],
+}
+
+/// A journal that is open, its book, and where its file stands.
+#[derive(Drop)]
+struct Ready<D: Disk> {
+    book: Book,
+    kept: DiskJournal<D>,
+    place: Place,
+}
+
+/// Which file has a name now, whose path is to be this one: where one was made, that.
+fn placed(rt: &HostRuntime, alloc: Global, path: &str, name: &Name) -> Result<Place, Fault>
+    ensures { IfErr result (λ e. IsTrue (is_keep_fault e)) }
+{
+    match Place::of(*rt, alloc, path, name.as_str()) {
+        Ok(place) if name.leads_to(place.node()) => Ok(place),
+        Ok(place) => {
+            drop(place);
+            Err(unopened(alloc, path, OpenError::InUse))
+        }
+        Err(error) => Err(unconnected(alloc, path, error)),
+    }
+}
+
+/// Opens the file of a journal that has this name, and is to have this path, and recovers it.
+fn opened<S: Start, P: Progress>(
+    rt: &HostRuntime,
+    alloc: Global,
+    asked: Asked<'_>,
+    name: &Name,
+    start: S,
+    house: House,
+    progress: &mut P,
+) -> Result<Ready<FileFrom<S>>, Fault>
+    ensures house { IfOk result (λ r. r.kept.house ≡ house) }
+    ensures book { IfOk result (λ r. r.book.house ≡ house) }
+    ensures run { IfOk result (λ r. IsRunFrom house (opening_history house) r.book.history) }
+    ensures says { IfOk result (λ r.
+        IsTrue (⟦<FileFrom<S> as Disk>⟧.is_clean (disk_of r.kept.journal))
+        → Keeps ⟦<FileFrom<S> as Disk>⟧.seen ⟦<FileFrom<S> as Disk>⟧.may_leave
+        r.kept.house r.kept.pin.bytes r.book.history r.kept.journal) }
+    ensures takes { IfOk result (λ r.
+        IsTrue (⟦<FileFrom<S> as Disk>⟧.is_usable (disk_of r.kept.journal))) }
+    ensures fault { IfErr result (λ e. IsTrue (is_keep_fault e)) }
+{
+    let disk = match open_file(rt, name.as_str(), start) {
+        Ok(disk) => disk,
+        Err(error) => {
+            drop(house);
+            return Err(unopened(alloc, asked.path, name.refused(error)));
+        }
+    };
+    let place = match placed(rt, alloc, asked.path, name) {
+        Ok(place) => place,
+        Err(fault) => {
+            drop(house);
+            drop(disk);
+            return Err(fault);
+        }
+    };
+    let Asked {
+        path,
+        key,
+        pin,
+        moment,
+    } = asked;
+    match DiskJournal::recover(alloc, disk, house, key, &pin, moment, progress) {
+        Ok((book, kept)) => Ok(Ready { book, kept, place }),
+        Err(error) => {
+            drop(place);
+            Err(unrecovered(alloc, path, error))
+        }
+    }
+}
+
+/// A journal whose file has its own name from now on.
+fn settled<D: Disk + Drop>(
+    rt: &HostRuntime,
+    alloc: Global,
+    path: &str,
+    name: &Name,
+    opened: Ready<D>,
+) -> Result<Ready<D>, Fault>
+    ensures opened { IfOk result (λ r. r ≡ opened) }
+    ensures fault { IfErr result (λ e. IsTrue (is_keep_fault e)) }
+{
+    if let Err(error) = name.settle(rt, path) {
+        drop(opened);
+        return Err(unplaced(alloc, path, error));
+    }
+    if !opened.place.has(opened.kept.journal.len()) {
+        drop(opened);
+        return Err(fault_at(alloc, path, RecordError::Gone));
+    }
+    Ok(opened)
+}
+
+/// Opens and recovers the journal at a path, or begins one there, which has its name once it is
+/// whole, and on the disk.
+fn named<S: Start, P: Progress>(
+    rt: &HostRuntime,
+    alloc: Global,
+    asked: Asked<'_>,
+    start: S,
+    house: House,
+    progress: &mut P,
+) -> Result<Ready<FileFrom<S>>, Fault>
+    ensures house { IfOk result (λ r. r.kept.house ≡ house) }
+    ensures book { IfOk result (λ r. r.book.house ≡ house) }
+    ensures run { IfOk result (λ r. IsRunFrom house (opening_history house) r.book.history) }
+    ensures says { IfOk result (λ r.
+        IsTrue (⟦<FileFrom<S> as Disk>⟧.is_clean (disk_of r.kept.journal))
+        → Keeps ⟦<FileFrom<S> as Disk>⟧.seen ⟦<FileFrom<S> as Disk>⟧.may_leave
+        r.kept.house r.kept.pin.bytes r.book.history r.kept.journal) }
+    ensures takes { IfOk result (λ r.
+        IsTrue (⟦<FileFrom<S> as Disk>⟧.is_usable (disk_of r.kept.journal))) }
+    ensures fault { IfErr result (λ e. IsTrue (is_keep_fault e)) }
+{
+    let name = match Name::of(rt, asked.path) {
+        Ok(name) => name,
+        Err(error) => {
+            drop(house);
+            drop(start);
+            return Err(unplaced(alloc, asked.path, error));
+        }
+    };
+    let ready = match opened(rt, alloc, asked, &name, start, house, progress) {
+        Ok(ready) => ready,
+        Err(fault) => {
+            name.remove(rt);
+            return Err(fault);
+        }
+    };
+    match settled(rt, alloc, asked.path, &name, ready) {
+        Ok(ready) => Ok(ready),
+        Err(fault) => {
+            name.remove(rt);
+            Err(fault)
         }
     }
 }
@@ -138,29 +301,17 @@ impl<S: Start + Send + 'static> Journals for SystemJournals<S> {
                 return Err(fault);
             }
         };
-        let disk = match open_file(&rt, path, start) {
-            Ok(disk) => disk,
-            Err(error) => {
-                drop(house);
-                drop(replica);
-                return Err(unopened(alloc, path, error));
-            }
+        let asked = Asked {
+            path,
+            key,
+            pin: HouseDigest::of(text),
+            moment: sent.as_bytes(),
         };
-        let place = match Place::of(rt, alloc, path) {
-            Ok(place) => place,
-            Err(error) => {
-                drop(house);
+        match named(&rt, alloc, asked, start, house, progress) {
+            Ok(Ready { book, kept, place }) => replicated(alloc, path, book, kept, replica, place),
+            Err(fault) => {
                 drop(replica);
-                drop(disk);
-                return Err(unconnected(alloc, path, error));
-            }
-        };
-        let pin = HouseDigest::of(text);
-        match DiskJournal::recover(alloc, disk, house, key, &pin, sent.as_bytes(), progress) {
-            Ok((book, kept)) => replicated(alloc, path, book, kept, replica, place),
-            Err(error) => {
-                drop(replica);
-                Err(unrecovered(alloc, path, error))
+                Err(fault)
             }
         }
     }

@@ -7,6 +7,7 @@ ghost use Rattle.std.specs.Prelude.{◌≡◌, ◌≤◌, ◌++◌, length, take
 ghost use Rattle.gu_recorder.specs.Waiting.{bytes_of, RestOn};
 
 use crate::made::{Made, sent_behind};
+use crate::shutter::Shutter;
 use gu_connection::Closed;
 use gu_desk::{Job, Ticket};
 use std::io;
@@ -36,6 +37,11 @@ impl Wire {
     /// By what a poll knows it.
     pub fn as_raw_fd(&self) -> RawFd {
         self.stream.as_raw_fd()
+    }
+
+    /// By what others can shut it.
+    pub fn shutter(&self) -> io::Result<Shutter> {
+        Shutter::of(&self.stream)
     }
 
     /// Tells the peer that no more comes.

@@ -12,7 +12,11 @@ use Rattle.gu_parties.specs.Parsing.{Answers}
 use Rattle.gu_parties.specs.declared.fault.HouseError.{HouseError}
 use Rattle.gu_connection.specs.Serving.{IsServed}
 use Rattle.gu_server.specs.HouseText.{IsTextOf, IsTooLong}
-use Rattle.gu_command.specs.Lines.{command_in, house_in, trade_in, trade_meant}
+use Rattle.gu_command.specs.Lines.{command_in, house_in, journal_in, trade_in, trade_meant}
+use Rattle.gu_command.specs.Lines.{totals_in, copy_in}
+use Rattle.gu_command.specs.Flags.{flag_meant}
+use Rattle.gu_copies.specs.Verified.{Says, Copies}
+use Rattle.sha2.specs.Sha256.{sha256}
 use Rattle.gu_command.specs.declared.fault.Fault.{Fault}
 use Rattle.gu_command.specs.declared.fault.Fault.TheVariants.{Usage, HouseFile, HouseLine, Service}
 use Rattle.gu_command.specs.declared.fault.Fault.TheVariants.{Journal, Keep, Run}
@@ -41,14 +45,20 @@ pub record Asks (command : Text) (words : List Text) (bytes_at : Text → Option
   pub house : House
   pub named : Names (bytes_at path) (Ok house)
 
+-- the words are those of a command that has a journal
+abbrev pub AsksOfJournal : List Text → (Text → Option (List ℕ)) → Type 0
+AsksOfJournal words bytes_at =
+    Asks (codes "keep") words bytes_at ⊎ Asks (codes "verify") words bytes_at
+    ⊎ (command_in words ≡ Some (codes "backup"))
+
 -- why nothing was read and nothing written: the command line, the house file that it names, or the
 -- server
 abbrev pub Stops : List Text → (Text → Option (List ℕ)) → Fault → Type 0
 Stops words bytes_at (Usage text) = Unit {0}
 Stops words bytes_at (Run Memory) = Unit {0}
 Stops words bytes_at (Service error) = Asks (codes "serve") words bytes_at
-Stops words bytes_at (Journal text) = Asks (codes "keep") words bytes_at
-Stops words bytes_at (Keep error) = Asks (codes "keep") words bytes_at
+Stops words bytes_at (Journal text) = AsksOfJournal words bytes_at
+Stops words bytes_at (Keep error) = AsksOfJournal words bytes_at
 Stops words bytes_at e =
     (path : Text) × (house_in words ≡ Some path) × IsHouseFault (bytes_at path) e
 
@@ -103,23 +113,62 @@ pub record HasKept {A : Type 0} (words : List Text) (bytes_at : Text → Option 
   pub totals : WritesTotals book.house book.history old.contents new.contents old.writes_failed
       new.writes_failed result
 
+-- ---- journals
+
+-- the journal of the words was looked at, and what a start would say of it was written, by the
+-- house table that the house file of the words names
+pub record HasVerified {A : Type 0} (words : List Text)
+    (bytes_at journal_at : Text → Option (List ℕ)) (old new : Told) (result : Result A RunError)
+    : Type 0 where
+  pub asks : Asks (codes "verify") words bytes_at
+  pub journal : Text
+  pub named : journal_in words ≡ Some journal
+  pub trade : Option ℕ
+  pub meant : trade_meant (trade_in words) ≡ Some trade
+  pub unread : (new.left ≡ old.left) × (new.made ≡ old.made) × (new.reads_failed ≡ old.reads_failed)
+  pub says : Says asks.house (sha256 asks.named.0) (journal_at journal)
+      (flag_meant (totals_in words)) trade old.contents new.contents old.writes_failed
+      new.writes_failed result
+
+-- the journal of the words was copied to where they say; nothing was read or written beside that
+pub record IsCopied (words : List Text) (journal_at : Text → Option (List ℕ))
+    (is_copied : Text → List ℕ → Type 0) (old new : Told) : Type 0 where
+  pub is : command_in words ≡ Some (codes "backup")
+  pub journal : Text
+  pub named : journal_in words ≡ Some journal
+  pub to : Text
+  pub asked : copy_in words ≡ Some to
+  pub copies : Copies (journal_at journal) (is_copied to)
+  pub same : new ≡ old
+
+abbrev pub HasCopied : {A : Type 0} → List Text → (Text → Option (List ℕ))
+    → (Text → List ℕ → Type 0) → Told → Told → Result A RunError → Type 0
+HasCopied words journal_at is_copied old new (Ok x) = IsCopied words journal_at is_copied old new
+HasCopied words journal_at is_copied old new (Err e) = ⊥
+
 -- ---- the program
 
 -- what the words ask for was done
-abbrev pub HasDone : {A : Type 0} → List Text → (Text → Option (List ℕ)) → Told → Told
-    → Result A RunError → Type 0
-HasDone words bytes_at old new result =
+abbrev pub HasDone : {A : Type 0} → List Text → (Text → Option (List ℕ))
+    → (Text → Option (List ℕ)) → (Text → List ℕ → Type 0) → Told → Told → Result A RunError
+    → Type 0
+HasDone words bytes_at journal_at is_copied old new result =
     HasRun words bytes_at old new result ⊎ HasTraced words bytes_at old new result
     ⊎ HasServed words bytes_at old new result ⊎ HasKept words bytes_at old new result
+    ⊎ HasVerified words bytes_at journal_at old new result
+    ⊎ HasCopied words journal_at is_copied old new result
 
--- a batch, a trace or a server was run to its end, or nothing was touched, or the run ended with an
--- error
-abbrev pub Does : {A : Type 0} → List Text → (Text → Option (List ℕ)) → Told → Told → Result A Fault
-    → Type 0
-Does {A} words bytes_at old new (Ok x) = HasDone {A = A} words bytes_at old new (Ok x)
-Does {A} words bytes_at old new (Err e) =
+-- a batch, a trace or a server was run to its end, a journal looked at or copied, or nothing was
+-- touched, or the run ended with an error. House files have these bytes, journals those, and this
+-- holds of copies.
+abbrev pub Does : {A : Type 0} → List Text → (Text → Option (List ℕ)) → (Text → Option (List ℕ))
+    → (Text → List ℕ → Type 0) → Told → Told → Result A Fault → Type 0
+Does {A} words bytes_at journal_at is_copied old new (Ok x) =
+    HasDone {A = A} words bytes_at journal_at is_copied old new (Ok x)
+Does {A} words bytes_at journal_at is_copied old new (Err e) =
     (Stops words bytes_at e × (new ≡ old))
-    ⊎ ((error : RunError) × (e ≡ Run error) × HasDone {A = A} words bytes_at old new (Err error))
+    ⊎ ((error : RunError) × (e ≡ Run error)
+    × HasDone {A = A} words bytes_at journal_at is_copied old new (Err error))
 
 -- the command line isn't at fault
 abbrev pub IsUnderstood : Fault → Type 0

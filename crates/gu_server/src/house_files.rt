@@ -1,11 +1,14 @@
-//! House files by their paths.
+//! House files and journals by their paths.
 
 ghost use Rattle.std.specs.Prelude.{◌≡◌, ℕ, List, [], Option, None};
 ghost use Rattle.gu_server.specs.HouseText.{Reads, ReadsAll};
 
 use gu_batch::{Counted, RunError, Source};
 use gu_command::Fault;
+use gu_copies::{Draft, JournalFiles, SyncedDraft, discard_draft, draft_at, name_draft, read_file};
+use std::alloc::Global;
 use std::fs::File;
+use std::io;
 use std::io::ErrorKind;
 use std::rt::Files;
 
@@ -80,5 +83,35 @@ impl<R: Files> HouseFiles for SystemFiles<'_, R> {
                 _ => Fault::HouseFile,
             }),
         }
+    }
+}
+
+impl<R: Files> JournalFiles for SystemFiles<'_, R> {
+    ghost journal_at = { λ _ _. None };
+
+    ghost is_copied = { λ _ _ _. Unit {0} };
+
+    type Draft = Draft<R::File>;
+
+    type Synced = SyncedDraft;
+
+    fn read_journal(&self, alloc: Global, path: &str) -> Result<Vec<u8>, Fault> {
+        read_file(self.rt, alloc, path)
+    }
+
+    fn draft(&self, alloc: Global, to: &str) -> Result<Draft<R::File>, Fault> {
+        draft_at(self.rt, alloc, to)
+    }
+
+    fn sync(&self, draft: Draft<R::File>, _text: &[u8]) -> io::Result<SyncedDraft> {
+        draft.sync()
+    }
+
+    fn name(&self, alloc: Global, _copy: SyncedDraft, to: &str, _text: &[u8]) -> Result<(), Fault> {
+        name_draft(self.rt, alloc, to)
+    }
+
+    fn discard(&self, alloc: Global, to: &str) {
+        discard_draft(self.rt, alloc, to);
     }
 }

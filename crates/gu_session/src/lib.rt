@@ -9,6 +9,8 @@
 //! - Laws hold for every list of steps (`specs/Runs.antt`): numbers without gaps, calls that rise
 //!   and are awaited, silence before the Logon and after the close, and resends that cover their
 //!   span once with what was sent.
+//! - What an operator is told of a step, and of a gap, is the table's too: `step_noted` and `gap`
+//!   (`specs/Noting.antt`).
 //! - No growth depends on a number that a peer names.
 //! Its cases are data of the program `test_messages`.
 #![tactic(auto)]
@@ -18,6 +20,7 @@ mod kept;
 pub mod laws;
 mod line;
 mod link;
+mod noted;
 mod replying;
 mod session;
 mod table;
@@ -26,5 +29,6 @@ mod writing;
 
 pub use event::{Actions, Event};
 pub use gu_message::is_moment;
+pub use noted::{Gap, Noted};
 pub use replying::LAST_NUMBER;
 pub use session::Session;

@@ -3,7 +3,10 @@ use Rattle.std.specs.Prelude.{ℕ, ◌+◌, ◌*◌, ◌/◌, ◌==◌, Bool, tr
 use Rattle.std.specs.Prelude.{◌∷◌, ◌++◌, codes, decimal, flat_map, is_none, slice_index}
 use Rattle.gu_status.specs.Samples.{Text, family, decimal_line, millionths, sample, labelled}
 use Rattle.gu_status.specs.Samples.{single}
+use Rattle.gu_status.specs.declared.snapshot.Faults.{Faults}
 use Rattle.gu_status.specs.declared.snapshot.FirmEntries.{FirmEntries}
+use Rattle.gu_status.specs.declared.snapshot.RefusedLogons.{RefusedLogons}
+use Rattle.gu_status.specs.Causes.{cause_word}
 use Rattle.gu_status.specs.declared.snapshot.Snapshot.{Snapshot}
 use Rattle.gu_status.specs.declared.snapshot.Times.{Times}
 
@@ -89,6 +92,32 @@ calls_text s =
     (codes "Calls that were refused, by the refusal's number.")
     ++ refusals_text 1 s.refused
 
+-- how many Rejects were sent, by their reasons
+unfoldable pub rejects_text : List ℕ → Text
+rejects_text ns = labelled (codes "allocd_rejects_total{reason=\"") (codes "1") (slice_index ns 0)
+    ++ labelled (codes "allocd_rejects_total{reason=\"") (codes "2") (slice_index ns 1)
+    ++ labelled (codes "allocd_rejects_total{reason=\"") (codes "5") (slice_index ns 2)
+    ++ labelled (codes "allocd_rejects_total{reason=\"") (codes "6") (slice_index ns 3)
+    ++ labelled (codes "allocd_rejects_total{reason=\"") (codes "11") (slice_index ns 4)
+    ++ labelled (codes "allocd_rejects_total{reason=\"") (codes "16") (slice_index ns 5)
+
+-- what was lost or sent again
+unfoldable pub losses_text : Faults → Text
+losses_text f =
+    single (codes "allocd_garbled_frames_total") (codes "counter")
+    (codes "Frames that were garbled, and so passed over.") f.garbled
+    ++ single (codes "allocd_messages_dropped_total") (codes "counter")
+    (codes "Messages that were dropped since some before them lacked.") f.dropped
+    ++ single (codes "allocd_messages_resent_total") (codes "counter")
+    (codes "Messages that were sent again.") f.resent
+
+-- what went wrong between firms and the server
+unfoldable pub faults_text : Faults → Text
+faults_text f =
+    family (codes "allocd_rejects_total") (codes "counter")
+    (codes "Rejects that were sent, by SessionRejectReason (373).")
+    ++ rejects_text f.rejects ++ losses_text f
+
 -- how often something took no longer than the bounds up to 50 ms
 unfoldable pub short_buckets : Text → Times → Text
 short_buckets name s = labelled name (codes "0.001") (slice_index s.within 0)
@@ -151,6 +180,20 @@ abbrev pub start_text : ℕ → Text
 start_text began = single (codes "process_start_time_seconds") (codes "gauge")
     (codes "When the server began, in seconds from 1970 on.") began
 
+-- how many Logons were refused for a cause
+unfoldable pub cause_text : RefusedLogons → Text
+cause_text r = labelled (codes "allocd_logons_refused_total{cause=\"") (cause_word r.cause) r.count
+
+-- for each cause
+abbrev pub causes_text : List RefusedLogons → Text
+causes_text rs = flat_map cause_text rs
+
+-- which Logons were refused
+unfoldable pub logons_text : List RefusedLogons → Text
+logons_text rs = family (codes "allocd_logons_refused_total") (codes "counter")
+    (codes "Connections that ended before a Logon was accepted, by the cause.")
+    ++ causes_text rs
+
 -- what was slow, and what was refused
 unfoldable pub delays_text : Snapshot → Text
 delays_text s =
@@ -159,8 +202,7 @@ delays_text s =
     ++ single (codes "allocd_oldest_group_seconds") (codes "gauge")
     (codes "Seconds for which a group is on its way to the disk; 0 where none is.")
     s.syncs.oldest_seconds
-    ++ single (codes "allocd_logons_refused_total") (codes "counter")
-    (codes "Connections that ended before a Logon was accepted.") s.logons_refused
+    ++ logons_text s.logons_refused
 
 -- what the program, its start and its delays are
 unfoldable pub server_text : Snapshot → Text
@@ -169,5 +211,5 @@ server_text s = build_text ++ start_text s.began ++ delays_text s
 -- all figures
 unfoldable pub metrics_text : Snapshot → Text
 metrics_text s = state_text s ++ book_text s ++ room_text s ++ firm_entries_text s ++ calls_text s
-    ++ times_text s.syncs.disk ++ answers_text s.syncs.machines
+    ++ faults_text s.faults ++ times_text s.syncs.disk ++ answers_text s.syncs.machines
     ++ rest_text s ++ server_text s

@@ -3,15 +3,17 @@
 ghost use Rattle.std.specs.Prelude.{◌≡◌, ◌++◌, codes, is_none, OnOk, IfOk};
 ghost use Rattle.gu_status.specs.Samples.{labelled, single};
 ghost use Rattle.gu_status.specs.Metrics.{answers_text, book_text, build_text, calls_text};
-ghost use Rattle.gu_status.specs.Metrics.{firm_text};
+ghost use Rattle.gu_status.specs.Metrics.{causes_text, cause_text, faults_text, firm_text};
+ghost use Rattle.gu_status.specs.Metrics.{logons_text, losses_text, rejects_text};
 ghost use Rattle.gu_status.specs.Metrics.{delays_text, firms_text, server_text, start_text};
 ghost use Rattle.gu_status.specs.Metrics.{fullness, fullness_text, long_buckets};
 ghost use Rattle.gu_status.specs.Metrics.{metrics_text, one_if, refusal_text, refusals_text};
 ghost use Rattle.gu_status.specs.Metrics.{rest_text, firm_entries_text, room_text};
 ghost use Rattle.gu_status.specs.Metrics.{short_buckets, state_text, times_text, totals_text};
 
+use crate::causes::CAUSES;
 use crate::samples::{push, push_family, push_labelled, push_millionths, push_number, push_single};
-use crate::snapshot::{FirmEntries, REASONS, Snapshot, Times};
+use crate::snapshot::{Faults, FirmEntries, REASONS, REJECTS, RefusedLogons, Snapshot, Times};
 use gu_base::Memory;
 use itoa::Buffer;
 use std::alloc::Global;
@@ -102,6 +104,43 @@ fn push_start(text: &mut Vec<u8>, began: u64) -> Result<(), Memory>
     )
 }
 
+/// Appends how many Logons were refused for a cause.
+#[tactic(auto, unfolding(crate::specs::Metrics::cause_text))]
+fn push_cause(text: &mut Vec<u8>, it: &RefusedLogons) -> Result<(), Memory>
+    ensures { OnOk result (text.new.items ≡ text.old.items ++ cause_text it.now) }
+{
+    push_labelled(
+        text,
+        "allocd_logons_refused_total{cause=\"",
+        it.cause.word().as_bytes(),
+        it.count,
+    )
+}
+
+/// Appends how many Logons were refused for each cause.
+fn push_causes(text: &mut Vec<u8>, refused: &[RefusedLogons; CAUSES]) -> Result<(), Memory>
+    ensures { OnOk result (text.new.items ≡ text.old.items ++ causes_text refused.now) }
+{
+    for it in refused {
+        push_cause(text, it)?;
+    }
+    Ok(())
+}
+
+/// Appends which Logons were refused.
+#[tactic(auto, unfolding(crate::specs::Metrics::logons_text))]
+fn push_logons(text: &mut Vec<u8>, refused: &[RefusedLogons; CAUSES]) -> Result<(), Memory>
+    ensures { OnOk result (text.new.items ≡ text.old.items ++ logons_text refused.now) }
+{
+    push_family(
+        text,
+        "allocd_logons_refused_total",
+        "counter",
+        "Connections that ended before a Logon was accepted, by the cause.",
+    )?;
+    push_causes(text, refused)
+}
+
 /// Appends what was slow, and what was refused.
 #[tactic(auto, unfolding(crate::specs::Metrics::delays_text))]
 fn push_delays(text: &mut Vec<u8>, snapshot: &Snapshot) -> Result<(), Memory>
@@ -121,13 +160,7 @@ fn push_delays(text: &mut Vec<u8>, snapshot: &Snapshot) -> Result<(), Memory>
         "Seconds for which a group is on its way to the disk; 0 where none is.",
         snapshot.syncs.oldest_seconds,
     )?;
-    push_single(
-        text,
-        "allocd_logons_refused_total",
-        "counter",
-        "Connections that ended before a Logon was accepted.",
-        snapshot.logons_refused,
-    )
+    push_logons(text, &snapshot.logons_refused)
 }
 
 /// Appends what the program, its start and its delays are.
@@ -304,6 +337,62 @@ fn push_calls(text: &mut Vec<u8>, snapshot: &Snapshot) -> Result<(), Memory>
     push_refusals(text, &snapshot.refused)
 }
 
+/// Appends how many Rejects were sent for each reason.
+#[tactic(auto, unfolding(crate::specs::Metrics::rejects_text))]
+fn push_rejects(text: &mut Vec<u8>, rejects: &[u64; REJECTS]) -> Result<(), Memory>
+    ensures { OnOk result (text.new.items ≡ text.old.items ++ rejects_text rejects.now) }
+{
+    push_labelled(text, "allocd_rejects_total{reason=\"", b"1", rejects[0])?;
+    push_labelled(text, "allocd_rejects_total{reason=\"", b"2", rejects[1])?;
+    push_labelled(text, "allocd_rejects_total{reason=\"", b"5", rejects[2])?;
+    push_labelled(text, "allocd_rejects_total{reason=\"", b"6", rejects[3])?;
+    push_labelled(text, "allocd_rejects_total{reason=\"", b"11", rejects[4])?;
+    push_labelled(text, "allocd_rejects_total{reason=\"", b"16", rejects[5])
+}
+
+/// Appends what was lost or sent again.
+#[tactic(auto, unfolding(crate::specs::Metrics::losses_text))]
+fn push_losses(text: &mut Vec<u8>, faults: &Faults) -> Result<(), Memory>
+    ensures { OnOk result (text.new.items ≡ text.old.items ++ losses_text faults.now) }
+{
+    push_single(
+        text,
+        "allocd_garbled_frames_total",
+        "counter",
+        "Frames that were garbled, and so passed over.",
+        faults.garbled,
+    )?;
+    push_single(
+        text,
+        "allocd_messages_dropped_total",
+        "counter",
+        "Messages that were dropped since some before them lacked.",
+        faults.dropped,
+    )?;
+    push_single(
+        text,
+        "allocd_messages_resent_total",
+        "counter",
+        "Messages that were sent again.",
+        faults.resent,
+    )
+}
+
+/// Appends what went wrong between firms and the server.
+#[tactic(auto, unfolding(crate::specs::Metrics::faults_text))]
+fn push_faults(text: &mut Vec<u8>, faults: &Faults) -> Result<(), Memory>
+    ensures { OnOk result (text.new.items ≡ text.old.items ++ faults_text faults.now) }
+{
+    push_family(
+        text,
+        "allocd_rejects_total",
+        "counter",
+        "Rejects that were sent, by SessionRejectReason (373).",
+    )?;
+    push_rejects(text, &faults.rejects)?;
+    push_losses(text, faults)
+}
+
 /// Appends how often something took no longer than a bound.
 fn push_bucket(text: &mut Vec<u8>, name: &str, bound: &str, count: u64) -> Result<(), Memory>
     ensures { OnOk result (text.new.items ≡ text.old.items ++ labelled name.now bound.now count) }
@@ -434,6 +523,7 @@ pub fn metrics(alloc: Global, snapshot: &Snapshot) -> Result<Vec<u8>, Memory>
     push_room(&mut text, snapshot)?;
     push_firm_entries(&mut text, snapshot)?;
     push_calls(&mut text, snapshot)?;
+    push_faults(&mut text, &snapshot.faults)?;
     push_times(&mut text, &snapshot.syncs.disk)?;
     push_answers(&mut text, &snapshot.syncs.machines)?;
     push_rest(&mut text, snapshot)?;

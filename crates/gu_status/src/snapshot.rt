@@ -1,10 +1,17 @@
 //! How a server stands at a moment.
 
+use crate::causes::{CAUSES, Cause};
 use crate::parts::Part;
 use gu_base::FirmId;
 
 /// How many kinds of refusal there are: their numbers are 1 to 28.
 pub const REASONS: usize = 28;
+
+/// How many reasons of a Reject there are.
+pub const REJECTS: usize = 6;
+
+/// These reasons, as SessionRejectReason (373) has them.
+pub const REJECT_REASONS: [u8; REJECTS] = [1, 2, 5, 6, 11, 16];
 
 /// How many bounds the times of syncs are sorted by.
 pub const BUCKETS: usize = 11;
@@ -19,6 +26,13 @@ pub const BOUNDS: [u64; BUCKETS] = [
 pub struct FirmEntries {
     pub firm: FirmId,
     pub entries: u64,
+}
+
+/// How many connections ended without an accepted Logon for a cause.
+#[derive(Clone, Copy, Debug)]
+pub struct RefusedLogons {
+    pub cause: Cause,
+    pub count: u64,
 }
 
 /// How long something took, each time.
@@ -47,6 +61,19 @@ pub struct Syncs {
     pub idle_seconds: u64,
 }
 
+/// What went wrong between firms and the server.
+#[derive(Clone, Copy, Debug)]
+pub struct Faults {
+    /// Rejects that were sent, for each of the `REJECT_REASONS`.
+    pub rejects: [u64; REJECTS],
+    /// Frames that were garbled.
+    pub garbled: u64,
+    /// Messages that were dropped since some before them lacked.
+    pub dropped: u64,
+    /// Messages that were sent again.
+    pub resent: u64,
+}
+
 /// How a server stands.
 #[derive(Debug, Drop)]
 pub struct Snapshot {
@@ -73,8 +100,9 @@ pub struct Snapshot {
     pub accepted: u64,
     pub repeated: u64,
     pub refused: [u64; REASONS],
-    /// Connections that ended before a Logon was accepted.
-    pub logons_refused: u64,
+    pub faults: Faults,
+    /// Connections that ended before a Logon was accepted, by their causes.
+    pub logons_refused: [RefusedLogons; CAUSES],
     /// Bytes that wait for firms to take them.
     pub waiting_bytes: u64,
     pub syncs: Syncs,

@@ -2,7 +2,7 @@
 use Rattle.std.proofs.Common.{◌≡◌, ℕ, zero, suc, ◌+◌, ◌<◌, ◌≤◌, Bool, true, false, cond, List, [], ◌∷◌, ◌++◌, refl, sym}
 use Rattle.std.proofs.Common.{◌∙◌, ap, subst, arith, length, take, drop, get_or, ltb, leb, leb-true, leb-false, ne_eqb}
 use Rattle.std.proofs.Common.{eq-eqb, append_assoc, append-nil}
-use Rattle.std.specs.Prelude.{Some, map, filter, nat_lt, slice_get}
+use Rattle.std.specs.Prelude.{Some, Result, Ok, Err, OnOk, OnErr, map, filter, nat_lt, slice_get}
 use Rattle.std.specs.List.{AllWithin}
 use Rattle.std.specs.List.Sorted.{IsNonDecreasingBy}
 use Rattle.std.proofs.lemmas.Bool.{false_from_ne_true}
@@ -10,11 +10,15 @@ use Rattle.std.proofs.lemmas.Bool.Decides.{Decides-ltb}
 use Rattle.std.proofs.lemmas.List.{take-append-le, length-append}
 use Rattle.gu_base.specs.House.{House}
 use Rattle.gu_base.specs.History.{numbered_as, numbered_from, records}
+use Rattle.gu_base.specs.Answers.{Call, answer_to, after, after_by}
 use Rattle.gu_base.specs.Runs.{IsRunFrom}
+use Rattle.gu_base.specs.declared.entry.Answer.{Answer}
+use Rattle.gu_base.specs.declared.entry.Answer.TheVariants.{Accepted, Repeated, Refused}
 use Rattle.gu_base.specs.declared.entry.Entry.{Entry}
 use Rattle.gu_base.specs.declared.entry.Record.{Record}
 use Rattle.gu_base.proofs.Accepted.{allowed}
 use Rattle.gu_base.proofs.Numbered.{length_numbered}
+use Rattle.gu_book.specs.Seen.{HouseAndHistory}
 use Rattle.gu_trace.specs.Concerns.{concerns}
 use Rattle.gu_trace.specs.Index.{numbers_for, RiseWithin, ends_with, filed, IsIndexOf}
 use Rattle.gu_trace.specs.declared.index.ConcernIndex.{ConcernIndex}
@@ -183,3 +187,21 @@ index_stays t h k i run was =
       within = omega (arith, within, length-append h k);
       numbers = λ f. was.numbers f ∙ sym (numbers_stay t h k i.filed f (run_before t h k run) within);
     }
+
+stays_by : (t : House) (h : List Entry) (c : Call) (a : Answer) (i : ConcernIndex) → IsRunFrom t [] (after_by h c a)
+    → IsIndexOf t.house h i → IsIndexOf t.house (after_by h c a) i
+stays_by t h c (Accepted n s) i run was = index_stays t h _ i run was
+stays_by t h c (Repeated n s) i run was = was
+stays_by t h c (Refused r) i run was = was
+
+-- an index goes with its book behind a call, of which `apply` says this
+pub index_kept : {E : Type 0} (old new : HouseAndHistory) (c : Call) (r : Result Answer E) (i : ConcernIndex)
+    → OnOk r (new ≡ record { house = old.house; history = after old.house old.history c }) → OnErr r (new ≡ old)
+    → IsRunFrom new.house [] new.history → IsIndexOf old.house.house old.history i
+    → IsIndexOf new.house.house new.history i
+index_kept old new c (Ok a) i kept unchanged run was =
+    subst (λ (b : HouseAndHistory). IsIndexOf b.house.house b.history i) (sym kept)
+    (stays_by old.house old.history c (answer_to old.house old.history c) i
+    (subst (λ (b : HouseAndHistory). IsRunFrom b.house [] b.history) kept run) was)
+index_kept old new c (Err e) i kept unchanged run was =
+    subst (λ (b : HouseAndHistory). IsIndexOf b.house.house b.history i) (sym unchanged) was

@@ -7,6 +7,7 @@ pub mod Short
 pub mod Found
 pub mod Each
 pub mod Concerned
+pub mod Crossing
 pub mod Made
 pub mod Passed
 pub mod Indexed

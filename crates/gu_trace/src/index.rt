@@ -14,12 +14,10 @@ use gu_base::{FirmId, Memory, Number, Report};
 use gu_book::Book;
 use std::alloc::Global;
 
-/// For each firm the numbers of those of a book's first entries that concern it.
-///
-/// It goes with one book, from which alone it files. One from `new` goes with any book, and an
-/// index goes with its book whatever calls that answers later (`an_index_stays`).
+/// For each firm the numbers of those of a book's first entries that concern it. It goes with its
+/// book whatever calls that answers.
 #[derive(Drop)]
-pub struct ConcernIndex {
+pub(crate) struct ConcernIndex {
     by_firm: FirmNumbers,
     /// How many entries are filed.
     filed: u32,
@@ -43,7 +41,7 @@ fn later(after: u32, filed: u32) -> u32
 
 impl ConcernIndex {
     /// An index that has filed nothing yet.
-    pub fn new(alloc: Global) -> ConcernIndex
+    pub(crate) fn new(alloc: Global) -> ConcernIndex
         ensures { (house : List ℕ) (h : List Entry) → IsIndexOf house h result }
     {
         ConcernIndex {
@@ -52,14 +50,9 @@ impl ConcernIndex {
         }
     }
 
-    /// Files the entries of its book that aren't filed yet. An entry costs as much as the firms
-    /// that it concerns, however long the history is.
-    ///
-    /// # Errors
-    ///
-    /// `Memory` where a growth was refused. Then the entries before the one that wanted it are
-    /// filed.
-    pub fn file(&mut self, alloc: Global, book: &Book) -> Result<(), Memory>
+    /// Files the entries of its book that aren't filed yet. Where a growth was refused the entries
+    /// before the one that wanted it are filed.
+    pub(crate) fn file(&mut self, alloc: Global, book: &Book) -> Result<(), Memory>
         requires { IsIndexOf book.now.house.house book.now.history self.old }
         ensures goes_with { IsIndexOf book.now.house.house book.now.history self.new }
         ensures all { OnOk result (self.new.filed ≡ length book.now.history) }
@@ -76,14 +69,9 @@ impl ConcernIndex {
         Ok(())
     }
 
-    /// What `reports` gives, by the numbers that are filed for the firm, without a look at what
-    /// doesn't concern it. The entries that aren't filed are looked at one by one.
-    ///
-    /// # Errors
-    ///
-    /// `Memory` where a growth was refused, and only where an entry above the number concerns the
-    /// firm.
-    pub fn reports_by(
+    /// What `reports` gives, by the numbers that are filed for the firm. The entries that aren't
+    /// filed are looked at one by one.
+    pub(crate) fn reports_by(
         &self,
         alloc: Global,
         book: &Book,

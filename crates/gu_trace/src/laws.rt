@@ -1,14 +1,12 @@
-//! Laws of readings that go on where the last one has looked, and of an index. Calling one gives
-//! its clauses as facts.
+//! Laws of readings that go on where the last one has looked. Calling one gives its clauses as
+//! facts.
 ghost use Rattle.std.specs.Prelude.{◌≡◌, ◌++◌, ℕ, List, [], length};
 ghost use Rattle.gu_base.specs.House.{House};
 ghost use Rattle.gu_base.specs.Runs.{IsRunFrom};
 ghost use Rattle.gu_base.specs.declared.entry.Entry.{Entry};
 ghost use Rattle.gu_trace.specs.Between.{last_told, looked_to, HasLooked, Grow, told_above_sent};
 ghost use Rattle.gu_trace.specs.Between.{told_above_looked};
-ghost use Rattle.gu_trace.specs.Index.{IsIndexOf};
 ghost use Rattle.gu_trace.specs.Reports.{reports_for};
-ghost use Rattle.gu_trace.specs.declared.index.ConcernIndex.{ConcernIndex as Index};
 
 /// Between the last report that a connection was sent and the entry up to which it has looked no
 /// entry concerns its firm, behind each of its readings and in each later history. So a reading
@@ -28,11 +26,4 @@ pub fn nothing_is_passed_over()
     ensures all { (t : House) (h : List Entry) (f : List ℕ) (hs : List (List Entry))
         → IsRunFrom t [] h → Grow t h hs
         → told_above_looked t.house f 0 hs ≡ told_above_sent t.house f 0 hs }
-{}
-
-/// An index of a history is one of each later history, so it goes with its book whatever calls that
-/// answers.
-pub fn an_index_stays()
-    ensures { (t : House) (h k : List Entry) (i : Index) → IsRunFrom t [] (h ++ k)
-        → IsIndexOf t.house h i → IsIndexOf t.house (h ++ k) i }
 {}

@@ -1,7 +1,7 @@
 //! A crash at each call that keeping and recovering make of a disk in memory.
 //!
 //! A disk breaks after so many calls, 0, 1, 2 ..: while its file is begun, and while groups are
-//! committed, alone or pipelined. Of each such run a crash may leave what was written, what was
+//! committed. Of each such run a crash may leave what was written, what was
 //! synced, and five files between the two, with the call that failed (`mixing.rt`). Each of these
 //! files is recovered. Its history has to be that of the groups that were acknowledged, or that
 //! with the group that was on its way, whole; only foreign bytes may be told as damage. Then it has
@@ -9,10 +9,10 @@
 //! a crash leaves of it has to be recovered as the same history.
 
 ghost use Rattle.std.specs.Prelude.{◌<◌, IfOk, IsTrue};
-ghost use Rattle.gu_journal.specs.Keeping.{disk_of, IsIdle};
+ghost use Rattle.gu_journal.specs.Keeping.{disk_of};
 
 use crate::fault::Fault;
-use crate::keeping::{Told, Way, commit_all, turn_all};
+use crate::keeping::{Told, commit_all};
 use crate::mixing::{ALL, Left, bytes_left};
 use crate::reading::{Kept, attempt_beside, book_of, number_of, opening_count, read_file};
 use gu_base::Entry;
@@ -32,7 +32,6 @@ struct Day<'a> {
     entries: &'a [Entry],
     opening: usize,
     group: usize,
-    way: Way,
 }
 
 /// How far a run has come: the last entry that was acknowledged, and the last of the group that was
@@ -74,7 +73,6 @@ fn recovery_of<D: Disk + Drop>(
     bytes: &[u8],
 ) -> Result<Result<Kept<D>, Unrecovered<D>>, Fault>
     requires usable { IsTrue (D.Disk.is_usable disk) }
-    ensures idle { IfOk result (λ r. IfOk r (λ kept. IsIdle kept.journal)) }
     ensures usable { IfOk result (λ r. IfOk r (λ kept.
         IsTrue (D.Disk.is_usable (disk_of kept.journal)))) }
 {
@@ -110,15 +108,11 @@ fn keep_rest<D: Disk + Drop>(
     far: &mut Far,
 ) -> (D, bool)
     requires usable { IsTrue (D.Disk.is_usable (disk_of journal)) }
-    requires idle { IsIdle journal }
     requires some { 0 < day.group }
 {
     let mut journal = journal;
     let rest = day.entries.get(have..).unwrap_or(&[]);
-    let kept = match day.way {
-        Way::Single => commit_all(&mut journal, far, have, rest, day.group),
-        Way::Pipelined => turn_all(&mut journal, far, have, rest, day.group),
-    };
+    let kept = commit_all(&mut journal, far, have, rest, day.group);
     (journal.into_disk(), kept.is_ok())
 }
 
@@ -350,21 +344,7 @@ fn tell_day(rt: &HostRuntime, day: Day<'_>) -> Result<(), Fault>
     Ok(())
 }
 
-/// The same, alone and pipelined.
-fn tell_both(rt: &HostRuntime, day: Day<'_>) -> Result<(), Fault>
-    requires some { 0 < day.group }
-{
-    tell_day(rt, day)?;
-    tell_day(
-        rt,
-        Day {
-            way: Way::Pipelined,
-            ..day
-        },
-    )
-}
-
-/// Breaks the day of a stream, alone and pipelined, and tells what was counted.
+/// Breaks the day of a stream, and tells what was counted.
 pub(crate) fn crash_all(
     rt: &HostRuntime,
     house: &str,
@@ -377,14 +357,13 @@ pub(crate) fn crash_all(
     let bytes = read_file(rt, stream)?;
     // Left as it is: one for each line of words.
     let whole = ManuallyDrop::new(book_of(rt.alloc(), &file, &bytes)?);
-    tell_both(
+    tell_day(
         rt,
         Day {
             house: &file,
             entries: whole.history(),
             opening,
             group,
-            way: Way::Single,
         },
     )
 }

@@ -1,12 +1,12 @@
 //! The entries of a stream are kept in a journal.
 
 ghost use Rattle.std.specs.Prelude.{◌<◌, IsTrue};
-ghost use Rattle.gu_journal.specs.Keeping.{disk_of, IsIdle};
+ghost use Rattle.gu_journal.specs.Keeping.{disk_of};
 
 use crate::fault::Fault;
 use crate::reading::{Kept, MOMENT, attempt_beside, book_of, number_of, read_file};
 use gu_base::Entry;
-use gu_journal::{Journal, Unrecovered, open_file};
+use gu_journal::{Journal, Nothing, Unrecovered, open_file};
 use sqlite_disk::{Disk, Unknown};
 use std::mem::ManuallyDrop;
 
@@ -28,46 +28,16 @@ pub(crate) fn commit_all<D: Disk, T: Told>(
     group: usize,
 ) -> Result<(), Fault>
     requires usable { IsTrue (D.Disk.is_usable (disk_of journal.old)) }
-    requires idle { IsIdle journal.old }
     requires some { 0 < group }
 {
     let mut last = done;
     for new in entries.chunks(group) {
         last = last.saturating_add(new.len());
         told.trying(last);
-        journal.commit(MOMENT, new)?;
+        journal.commit(MOMENT, new, &mut Nothing)?;
         told.acknowledged(last)?;
     }
     Ok(())
-}
-
-/// The same, each group opened under the sync that the next one needs.
-pub(crate) fn turn_all<D: Disk, T: Told>(
-    journal: &mut Journal<D>,
-    told: &mut T,
-    done: usize,
-    entries: &[Entry],
-    group: usize,
-) -> Result<(), Fault>
-    requires usable { IsTrue (D.Disk.is_usable (disk_of journal.old)) }
-    requires idle { IsIdle journal.old }
-    requires some { 0 < group }
-{
-    let mut groups = entries.chunks(group);
-    let Some(first) = groups.next() else {
-        return Ok(());
-    };
-    journal.stage(MOMENT, first)?;
-    let mut last = done.saturating_add(first.len());
-    for new in groups {
-        told.trying(last);
-        journal.turn(MOMENT, new)?;
-        told.acknowledged(last)?;
-        last = last.saturating_add(new.len());
-    }
-    told.trying(last);
-    journal.open()?;
-    told.acknowledged(last)
 }
 
 /// Writes a line for each acknowledgement, at once.
@@ -85,15 +55,6 @@ impl Told for Printer<'_> {
     }
 }
 
-/// How a group gets to the disk.
-#[derive(Clone, Copy)]
-pub(crate) enum Way {
-    /// By two syncs of its own.
-    Single,
-    /// Opened under the sync that the next one needs.
-    Pipelined,
-}
-
 /// Recovers the journal on a disk, and keeps there those of the entries that it doesn't have.
 fn keep_on<D: Disk + Drop>(
     rt: &HostRuntime,
@@ -101,7 +62,6 @@ fn keep_on<D: Disk + Drop>(
     whole: &[Entry],
     disk: D,
     group: usize,
-    way: Way,
 ) -> Result<(), Fault>
     requires usable { IsTrue (D.Disk.is_usable disk) }
     requires some { 0 < group }
@@ -119,10 +79,7 @@ fn keep_on<D: Disk + Drop>(
         return Err(Fault::Other("the journal has more entries than the stream"));
     };
     let mut printer = Printer { rt };
-    match way {
-        Way::Single => commit_all(&mut journal, &mut printer, done, entries, group),
-        Way::Pipelined => turn_all(&mut journal, &mut printer, done, entries, group),
-    }
+    commit_all(&mut journal, &mut printer, done, entries, group)
 }
 
 /// The same with the journal's file.
@@ -132,12 +89,11 @@ fn keep_in(
     whole: &[Entry],
     path: &str,
     group: usize,
-    way: Way,
 ) -> Result<(), Fault>
     requires some { 0 < group }
 {
     let disk = open_file(rt, path, Unknown)?;
-    keep_on(rt, house, whole, disk, group, way)
+    keep_on(rt, house, whole, disk, group)
 }
 
 /// The same with the entries of a stream's book.
@@ -147,12 +103,11 @@ pub(crate) fn keep(
     stream: &str,
     path: &str,
     group: &str,
-    way: Way,
 ) -> Result<(), Fault> {
     let file = read_file(rt, house)?;
     let group = number_of(group)?;
     let stream = read_file(rt, stream)?;
     // Left as it is, as a batch leaves its book: the process ends behind it.
     let whole = ManuallyDrop::new(book_of(rt.alloc(), &file, &stream)?);
-    keep_in(rt, &file, whole.history(), path, group, way)
+    keep_in(rt, &file, whole.history(), path, group)
 }

@@ -5,7 +5,6 @@
 //! - `make HOUSE STREAM JOURNAL GROUP`: recovers the journal, and commits to it, GROUP at a time,
 //!   the entries of the stream's book that it doesn't have. It tells how many entries it has
 //!   recovered, and after each group at once the number of the last entry that is acknowledged.
-//! - `turn HOUSE STREAM JOURNAL GROUP`: the same, pipelined.
 //! - `recover HOUSE JOURNAL`: recovers it, and tells its entries and the totals of its book.
 //! - `crashes HOUSE STREAM GROUP`: a crash at each call that keeping and recovering make of a disk
 //!   in memory (`crashing.rt`).
@@ -21,7 +20,7 @@ mod reading;
 
 use crashing::crash_all;
 use fault::Fault;
-use keeping::{Way, keep};
+use keeping::keep;
 use reading::tell;
 use std::env;
 use std::process::ExitCode;
@@ -41,8 +40,7 @@ fn run(rt: &HostRuntime, words: &[String]) -> Result<(), Fault> {
     let third = word_at(words, 3);
     let group = word_at(words, 4);
     match word_at(words, 0) {
-        "make" => keep(rt, house, second, third, group, Way::Single),
-        "turn" => keep(rt, house, second, third, group, Way::Pipelined),
+        "make" => keep(rt, house, second, third, group),
         "recover" => tell(rt, house, second),
         "crashes" => crash_all(rt, house, second, third),
         _ => Err(Fault::Other("no such word")),

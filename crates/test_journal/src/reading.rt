@@ -1,7 +1,7 @@
 //! House files, streams and journals are read.
 
 ghost use Rattle.std.specs.Prelude.{◌<◌, IfOk, IsTrue};
-ghost use Rattle.gu_journal.specs.Keeping.{disk_of, IsIdle};
+ghost use Rattle.gu_journal.specs.Keeping.{disk_of};
 
 use crate::fault::Fault;
 use gu_base::{Answer, Entry, Part};
@@ -147,7 +147,6 @@ pub(crate) fn attempt<D: Disk + Drop>(
     disk: D,
 ) -> Result<Result<Recovered<D>, Unrecovered<D>>, Fault>
     requires usable { IsTrue (D.Disk.is_usable disk) }
-    ensures idle { IfOk result (λ r. IfOk r (λ found. IsIdle found.journal)) }
     ensures usable { IfOk result (λ r. IfOk r (λ found.
         IsTrue (D.Disk.is_usable (disk_of found.journal)))) }
 {
@@ -196,7 +195,6 @@ pub(crate) fn attempt_beside<D: Disk + Drop>(
     entries: &[Entry],
 ) -> Result<Result<Kept<D>, Unrecovered<D>>, Fault>
     requires usable { IsTrue (D.Disk.is_usable disk) }
-    ensures idle { IfOk result (λ r. IfOk r (λ kept. IsIdle kept.journal)) }
     ensures usable { IfOk result (λ r. IfOk r (λ kept.
         IsTrue (D.Disk.is_usable (disk_of kept.journal)))) }
 {

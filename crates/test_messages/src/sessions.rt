@@ -11,8 +11,9 @@
 //! - `call N`: a message of a call with this number; `calls A B`: one for each number from A to B,
 //!   with its answer.
 //! Each line is written again, and behind an event what the session asks for: the fields of each
-//! frame that goes out behind `>`, the call, `close`; and then `awaiting` where a call waits,
-//! `closed` where the session is closed. An empty line is copied.
+//! frame that goes out behind `>`, the call, `close`; and then `gap` where messages lack, with the
+//! first and the highest number that came behind it, `awaiting` where a call waits, `closed` where
+//! the session is closed. An empty line is copied.
 ghost use Rattle.std.specs.Prelude.{IfOk, IfSome};
 ghost use Rattle.std.specs.List.{All};
 ghost use Rattle.gu_message.specs.AllocationReport.{ShowsFewParts};

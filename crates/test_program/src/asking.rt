@@ -1,7 +1,7 @@
 //! What `command_line` takes the words of a line for.
 
 use crate::lines::{say, tell_fault, words_of};
-use gu_command::StatusAt;
+use gu_command::{Look, StatusAt};
 use gu_server::{KeepOptions, Line, command_line};
 use std::alloc::Global;
 
@@ -79,6 +79,14 @@ fn tell_words(rt: &HostRuntime, command: &[u8], words: &[&str]) {
     }
 }
 
+/// Writes what is asked for beside what a start would say of a journal.
+fn tell_look(rt: &HostRuntime, alloc: Global, look: &Look) {
+    if look.totals {
+        say(rt, b", totals");
+    }
+    tell_limit(rt, alloc, "trade", look.trade);
+}
+
 /// Writes what a line asks for.
 fn tell_line(rt: &HostRuntime, alloc: Global, line: &Line) {
     match line {
@@ -107,6 +115,13 @@ fn tell_line(rt: &HostRuntime, alloc: Global, line: &Line) {
             tell_words(rt, b"keep", &[house.as_str(), journal.as_str()]);
             tell_serving(rt, alloc, *port, *workers, *connections);
             tell_options(rt, alloc, options);
+        }
+        Line::Verify { house, look } => {
+            tell_words(rt, b"verify", &[house.as_str(), look.journal.as_str()]);
+            tell_look(rt, alloc, look);
+        }
+        Line::Backup { journal, to } => {
+            tell_words(rt, b"backup", &[journal.as_str(), to.as_str()]);
         }
     }
     say(rt, b"\n");

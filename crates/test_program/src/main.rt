@@ -68,6 +68,7 @@ const KEEP_ERRORS: &[KeepError] = &[
     KeepError::Record(RecordError::Replica),
     KeepError::Record(RecordError::Silent),
     KeepError::Record(RecordError::Gone),
+    KeepError::Record(RecordError::NoRoom),
     KeepError::Status,
     KeepError::Stuck,
     KeepError::Failed,

@@ -1,10 +1,10 @@
 //! What an answer is read from.
 use crate::found::Named;
-use crate::lookups::Lookups;
 use crate::undo::Undo;
-use gu_base::{Entry, Number, Refusal};
+use gu_base::{Number, Refusal};
 use gu_consent::Consents;
 use gu_fees::Terms;
+use gu_ids::History;
 use gu_parties::House;
 use std::marker::Model;
 
@@ -13,12 +13,11 @@ use std::marker::Model;
 #[derive(Drop)]
 pub(crate) struct Basis<'a> {
     pub(crate) house: &'a House,
-    pub(crate) entries: &'a [Entry],
+    pub(crate) entries: &'a History,
     pub(crate) named: &'a Option<Named>,
     pub(crate) undo: &'a Option<Result<Undo, Refusal>>,
     pub(crate) standing: Option<Number>,
     pub(crate) terms: &'a Terms,
-    pub(crate) lookups: &'a Lookups,
     pub(crate) consents: &'a Consents,
 }
 
@@ -29,12 +28,12 @@ impl<'a> Model for Basis<'a> {
 
     ghost view = { λ b. record {
       house = b.house.now;
-      history = b.entries.now;
+      history = b.entries.now.items;
       named = b.named.now;
       undo = b.undo.now;
       standing = b.standing;
     } };
 
     ghost invariant = { λ b.
-        IsBasis b.house.now b.entries.now b.terms.now b.lookups.now b.consents.now };
+        IsBasis b.house.now b.entries.now.items b.terms.now b.consents.now };
 }

@@ -15,7 +15,7 @@ ghost use Rattle.gu_base.specs.declared.refusal.Refusal.TheVariants.{UnknownFirm
 ghost use Rattle.gu_book.specs.Found.{IsNamedIn, IsStandingIn};
 ghost use Rattle.gu_book.specs.Front.{IsStandingOn, rest_of};
 ghost use Rattle.gu_book.specs.Ids.{NoIdTwice};
-ghost use Rattle.gu_book.specs.Lookups.{AreIdsOf};
+ghost use Rattle.gu_book.specs.Lookups.{IsNewestFirst};
 ghost use Rattle.gu_book.specs.Undo.{IsUndoIn, IsUndoOr};
 ghost use Rattle.gu_ids.specs.Hashing.{IsHashOf};
 ghost use Rattle.gu_tree.specs.Shown.{named_node};
@@ -24,7 +24,7 @@ use crate::rules::basis::Basis;
 use crate::rules::naming::naming_refusal;
 use crate::rules::refusals::change_refusal;
 use gu_base::{AllocId, Answer, Command, Entry, FirmId, Number, Refusal, State};
-use gu_ids::{IdHash, Ids};
+use gu_ids::{History, IdHash};
 
 /// The answer to a call whose firm and id this entry has.
 #[cold]
@@ -47,31 +47,29 @@ fn known_answer(number: Number, e: &Entry, command: &Command) -> Answer
 /// command.
 #[tactic(auto, using(crate::proofs::Cited::answer_again))]
 fn known(
-    ids: &Ids,
-    entries: &[Entry],
+    entries: &History,
     by: &FirmId,
     id: &AllocId,
     hash: IdHash,
     command: &Command,
 ) -> Option<Answer>
     requires hashed { IsHashOf hash by.now id.now }
-    requires once { NoIdTwice entries.now }
-    requires ids { AreIdsOf ids.now entries.now }
-    requires few { length entries.now ≤ most_entries }
+    requires once { NoIdTwice entries.now.items }
+    requires ids { IsNewestFirst entries.now.items }
     ensures { (other : Answer) → unwrap_or result other
         ≡ answer_by (find (is_same_call (record {
           firm = by.now;
           id = id.now;
           command = command.now;
-        })) (records entries.now))
+        })) (records entries.now.items))
         (find (is_same_id (record { firm = by.now; id = id.now; command = command.now }))
-        (records entries.now)) other }
+        (records entries.now.items)) other }
 {
-    let Some(number) = ids.number(entries, by, id, hash) else {
+    let Some(number) = entries.number(by, id, hash) else {
         return None;
     };
     let place = number.get() as usize - 1;
-    Some(known_answer(number, &entries[place], command))
+    Some(known_answer(number, &entries.as_slice()[place], command))
 }
 
 /// The status of a command that is accepted.
@@ -140,14 +138,15 @@ fn answer_by_rules(at: &Basis<'_>, by: &FirmId, command: &Command) -> Answer
         (first (unless (nat_lt (length at.now.history) most_entries) BookFull
         ∷ command_refusal at.now.house at.now.history by.now command.now ∷ [])) }
 {
-    if at.entries.len() >= Number::MAX as usize {
+    let count = at.entries.as_slice().len();
+    if count >= Number::MAX as usize {
         return Answer::Refused(Refusal::BookFull);
     }
     if let Some(refusal) = command_refusal(at, by, command) {
         return Answer::Refused(refusal);
     }
     Answer::Accepted {
-        number: Number::at_place(at.entries.len()),
+        number: Number::at_place(count),
         status: status_of(by, command),
     }
 }
@@ -171,7 +170,7 @@ pub(crate) fn answer(
       command = command.now;
     }) }
 {
-    if let Some(answer) = known(&at.lookups.ids, at.entries, by, id, hash, command) {
+    if let Some(answer) = known(at.entries, by, id, hash, command) {
         return answer;
     }
     answer_by_rules(at, by, command)

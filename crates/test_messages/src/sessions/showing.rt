@@ -94,6 +94,14 @@ fn show_if(rt: &impl Print, holds: bool, word: &str) -> bool {
     !holds || println!(rt; "  {word}").is_ok()
 }
 
+/// Writes which messages lack, where some do.
+fn show_gap(rt: &impl Print, session: &Session<'_>) -> bool {
+    match session.gap() {
+        Some(gap) => println!(rt; "  gap from {} to {}", gap.expected, gap.highest).is_ok(),
+        None => true,
+    }
+}
+
 /// Writes what a session asks for, and how it stands.
 pub(crate) fn show(
     rt: &(impl Print + Eprint),
@@ -104,6 +112,7 @@ pub(crate) fn show(
     show_frames(rt, alloc, actions.send.as_slice())
         && show_call(rt, actions)
         && show_if(rt, actions.close, "close")
+        && show_gap(rt, session)
         && show_if(rt, session.awaiting(), "awaiting")
         && show_if(rt, session.closed(), "closed")
 }

@@ -2,6 +2,7 @@ use Rattle.std.proofs.Common.{◌∙◌, ap, ap₂, map}
 use Rattle.std.proofs.lemmas.Result.{IfOk-weaker}
 use Rattle.clap.specs.Words.{found_of, takes}
 use Rattle.gu_command.proofs.CommandLines.{batch_taken, totals_taken, trace_taken, serve_taken, keep_taken}
+use Rattle.gu_command.proofs.CommandLines.{verify_taken, backup_taken, verify_read, backup_read}
 use Rattle.gu_command.proofs.CommandLines.{found_here, line_found}
 use Rattle.gu_command.proofs.CommandLines.{batch_read, totals_read, trace_read, serve_read, keep_read, line_read}
 use Rattle.gu_command.proofs.line.command_line.Goals as goal
@@ -32,6 +33,18 @@ pub returns-in-Err-clause-keep : goal.returns-in-Err-clause-keep
 returns-in-Err-clause-keep c path file word port words_are plain plain_file plain_word port_is =
     c.usage.ensures.memory (c.in-Err.ensures.passes
     (ap₂ takes c.in_ok-program_command.ensures.0 words_are ∙ keep_taken path file word plain plain_file plain_word))
+
+pub returns-in-Err-clause-verify : goal.returns-in-Err-clause-verify
+returns-in-Err-clause-verify c path file words_are plain plain_file =
+    c.usage.ensures.memory
+    (c.in-Err.ensures.passes
+    (ap₂ takes c.in_ok-program_command.ensures.0 words_are ∙ verify_taken path file plain plain_file))
+
+pub returns-in-Err-clause-backup : goal.returns-in-Err-clause-backup
+returns-in-Err-clause-backup c file copy words_are plain plain_copy =
+    c.usage.ensures.memory
+    (c.in-Err.ensures.passes
+    (ap₂ takes c.in_ok-program_command.ensures.0 words_are ∙ backup_taken file copy plain plain_copy))
 
 pub returns-in-Err-clause-taken : goal.returns-in-Err-clause-taken
 returns-in-Err-clause-taken c is =
@@ -93,6 +106,24 @@ returns-clause-keep c path file word port words_are plain plain_file plain_word 
     keep_read c.line_of.result words c.in-Some.name.now path file word port _ _ words_are plain plain_file plain_word
     port_is found.0 found.1 found.2 c.line_of.ensures.read c.line_of.ensures.keep
 
+pub returns-clause-verify : goal.returns-clause-verify
+returns-clause-verify c path file words_are plain plain_file =
+    let words = map (λ w. w.bytes.items) c.args.words.now in
+    let found = found_here _ words c.in-Ok.matches c.in-Some.name.now (found_of c.in-Some.given.now)
+    c.in_ok-program_command.ensures.0 (λ h. (c.in-Ok.ensures.matches h).1) c.in-Some.ensures.name
+    c.in-Some.ensures.rows in
+    verify_read c.line_of.result words c.in-Some.name.now path file _ _ words_are plain plain_file found.0 found.1
+    c.line_of.ensures.read c.line_of.ensures.verify
+
+pub returns-clause-backup : goal.returns-clause-backup
+returns-clause-backup c file copy words_are plain plain_copy =
+    let words = map (λ w. w.bytes.items) c.args.words.now in
+    let found = found_here _ words c.in-Ok.matches c.in-Some.name.now (found_of c.in-Some.given.now)
+    c.in_ok-program_command.ensures.0 (λ h. (c.in-Ok.ensures.matches h).1) c.in-Some.ensures.name
+    c.in-Some.ensures.rows in
+    backup_read c.line_of.result words c.in-Some.name.now file copy _ _ words_are plain plain_copy found.0 found.1
+    c.line_of.ensures.read c.line_of.ensures.backup
+
 pub returns-clause-taken : goal.returns-clause-taken
 returns-clause-taken c is =
     let words = map (λ w. w.bytes.items) c.args.words.now in
@@ -101,3 +132,4 @@ returns-clause-taken c is =
     c.in-Some.ensures.rows in
     line_read c.line_of.result words c.in-Some.name.now _ _ is.line is.found found.0 found.1 found.2
     c.line_of.ensures.batch c.line_of.ensures.trace c.line_of.ensures.serve c.line_of.ensures.keep
+    c.line_of.ensures.verify c.line_of.ensures.backup

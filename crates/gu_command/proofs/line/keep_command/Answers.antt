@@ -11,7 +11,7 @@ returns c =
     let port = with_rule journal port_rule in
     let workers = with_rule port workers_rule in
     let connections = with_rule workers connections_rule in
-    let one = same_rule house _ _ c.with_option-command.result c.journal_argument.ensures.rule
+    let one = same_rule house _ _ c.with_option-command.result c.journal_argument-journal.ensures.rule
     (c.with_option-command.ensures house c.house_command-command.ensures) in
     let two = same_rule journal _ _ c.with_option-command-2.result c.port_option.ensures.rule
     (c.with_option-command-2.ensures journal one) in

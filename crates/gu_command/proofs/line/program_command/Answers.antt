@@ -1,5 +1,5 @@
 use Rattle.clap.specs.Words.{with_subcommand}
-use Rattle.gu_command.specs.Lines.{top, batch, trace, serve, keep}
+use Rattle.gu_command.specs.Lines.{top, batch, trace, serve, keep, verify, backup}
 use Rattle.gu_command.proofs.line.program_command.Goals as goal
 
 pub returns : goal.returns
@@ -7,7 +7,11 @@ returns c =
     let one = with_subcommand top batch.top in
     let two = with_subcommand one trace.top in
     let three = with_subcommand two serve.top in
+    let four = with_subcommand three keep.top in
+    let five = with_subcommand four verify.top in
     let batched = c.with_command-command.ensures top batch c.bare_command.ensures c.batch_command.ensures in
     let traced = c.with_command-command-2.ensures one trace batched c.trace_command.ensures in
     let served = c.with_command-command-3.ensures two serve traced c.serve_command.ensures in
-    c.with_command.ensures three keep served c.keep_command.ensures
+    let kept = c.with_command-command-4.ensures three keep served c.keep_command.ensures in
+    let verified = c.with_command-command-5.ensures four verify kept c.verify_command.ensures in
+    c.with_command.ensures five backup verified c.backup_command.ensures

@@ -7,5 +7,5 @@ use Rattle.gu_command.proofs.line.trace_command.Goals as goal
 pub returns : goal.returns
 returns c =
     let house = with_rule (new_app (codes "trace")) house_rule in
-    same_rule house _ _ c.with_option.result c.option-trade.ensures.rule
+    same_rule house _ _ c.with_option.result c.trade_option.ensures.rule
     (c.with_option.ensures house c.house_command-command.ensures)

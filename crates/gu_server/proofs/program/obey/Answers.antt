@@ -1,14 +1,14 @@
 use Rattle.std.proofs.Common.{rules, subst}
 use Rattle.gu_command.specs.Lines.{IsLine}
 use Rattle.gu_command.specs.declared.line.Line.{Line}
-use Rattle.gu_server.proofs.Served.{served_by, kept_by, stopped}
+use Rattle.gu_server.proofs.Served.{served_by}
 use Rattle.gu_server.proofs.program.obey.Goals as goal
 
 -- firms were served
 pub returns-in-Ok-clause-does : goal.returns-in-Ok-clause-does
 returns-in-Ok-clause-does g c words line =
     let found = subst (λ (l : Line). IsLine words l) c.in-Serve.is line in
-    served_by words _ _ _ _ _ _ _ _ c.serve_and_tell.result
+    served_by words _ _ _ _ _ _ _ _ _ _ c.serve_and_tell.result
     (record {
       path = c.as_str-in-Serve.result.now;
       is = found.0;
@@ -18,25 +18,23 @@ returns-in-Ok-clause-does g c words line =
     }) c.serve_and_tell.ensures
 
 -- firms were served of a book that is kept
-pub returns-in-Ok-read_pinned-clause-does : goal.returns-in-Ok-read_pinned-clause-does
-returns-in-Ok-read_pinned-clause-does g c words line =
+pub returns-in-Keep-clause-does : goal.returns-in-Keep-clause-does
+returns-in-Keep-clause-does g c words line =
     let found = subst (λ (l : Line). IsLine words l) c.in-Keep.is line in
-    kept_by words _ _ _ _ _ _ _ _ c.keep_watched.result
-    (record {
-      path = c.as_str-in-Keep.result.now;
-      is = found.0;
-      asked = search (rules, found.1);
-      house = c.in-Ok-read_pinned.table;
-      named = c.in-Ok-read_pinned.ensures;
-    }) c.keep_watched.ensures
+    c.keep_by.ensures.does words _ _ _ found.0 (search (rules, found.1))
+
+-- a journal was looked at
+pub returns-in-Verify-clause-does : goal.returns-in-Verify-clause-does
+returns-in-Verify-clause-does g c words line =
+    let found = subst (λ (l : Line). IsLine words l) c.in-Verify.is line in
+    c.verify_by.ensures.does words _ _ _ found.0 (search (rules, found.1)) found.2 found.3 found.4
 
 -- a batch was run
 pub returns-in-Batch-clause-does : goal.returns-in-Batch-clause-does
 returns-in-Batch-clause-does g c = search rules
 
--- the house file is at fault
+-- a journal was copied
 pub returns-clause-does : goal.returns-clause-does
 returns-clause-does g c words line =
-    let found = subst (λ (l : Line). IsLine words l) c.in-Keep.is line in
-    stopped words _ c.as_str-in-Keep.result.now _ c.in-Err-read_pinned.fault (search (rules, found.1))
-    c.in-Err-read_pinned.ensures
+    let found = subst (λ (l : Line). IsLine words l) c.in-Backup.is line in
+    c.back_up_by.ensures.does words _ _ found.0 (search (rules, found.1)) (search (rules, found.2))

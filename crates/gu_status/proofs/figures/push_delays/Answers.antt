@@ -4,5 +4,5 @@ use Rattle.gu_status.proofs.figures.push_delays.Goals as goal
 
 pub returns : goal.returns
 unfolding delays_text
-returns c = on_ok c.push_single-3.result
-    (λ last. three _ _ _ _ _ _ _ c.in_ok-push_single.ensures c.in_ok-push_single-2.ensures last) c.push_single-3.ensures
+returns c = on_ok c.push_logons.result
+    (λ last. three _ _ _ _ _ _ _ c.in_ok-push_single.ensures c.in_ok-push_single-2.ensures last) c.push_logons.ensures

@@ -7,7 +7,7 @@ use Rattle.gu_book.specs.Front.{IsStandingOn, rest_of}
 pub returns : goal.returns
 returns c =
     let t = c.at.inside.house.now in
-    let h = c.at.inside.entries.now in
+    let h = c.at.inside.entries.now.items in
     let by = c.args.by.now in
     let command = c.args.command.now in
     let is = rw (← c.at.view_is) at c.requires.undo in

@@ -2,7 +2,7 @@ use Rattle.std.proofs.Common.{arith, ◌≡◌, ◌∙◌, ap, sym, subst, refl,
 use Rattle.atomic_table.specs.Table.{Me}
 use Rattle.gu_base.specs.declared.entry.Entry.{Entry}
 use Rattle.gu_book.specs.Ids.{NoIdTwice}
-use Rattle.gu_book.specs.Seen.{HouseAndHistory, stored}
+use Rattle.gu_book.specs.Seen.{BookView, HouseAndHistory, stored}
 use Rattle.gu_desk.specs.Views.{GroundView}
 use Rattle.gu_desk.specs.Runs.{IsRunOf}
 use Rattle.gu_desk.specs.declared.count.PassView.{PassView}
@@ -13,7 +13,8 @@ pub invariant_of-till : goal.invariant_of-till
 invariant_of-till g c =
     let b = stored c.ground.inside.book in
     let same : b ≡ g.J.Job.opening = ap (λ (v : GroundView). v.opening) c.ground.view_is ∙ c.requires.opening in
-    let history = ap (λ (l : List Entry). length l) c.history.ensures.value in
+    let history = ap (λ (l : List Entry). length l)
+    (c.history-entries.ensures.value ∙ ap (λ (v : BookView). v.history) c.as_book.ensures) in
     let opening = ap (λ (v : HouseAndHistory). length v.history) same in (
       subst (λ (v : HouseAndHistory). IsRunOf g.J.Job.opening v) (sym same)
           (refl, run_starts g.J.Job.opening.house g.J.Job.opening.history),
@@ -23,9 +24,8 @@ invariant_of-till g c =
       ap (λ (v : GroundView). v.table) c.ground.view_is ∙ c.requires.table,
       (c.in-Ok-cut_seats.ensures.table ∙ c.ground.invariant.2.0, c.ground.invariant.2.1),
       c.in-Ok-cut_seats.ensures.same ∙ c.ground.invariant.4,
-      c.history.ensures.once,
+      rw c.as_book.ensures at c.history-entries.ensures.once,
       c.ground.invariant.6,
-      c.ground.invariant.7,
     )
 
 pub cut_seats-requires-clause-fits : goal.cut_seats-requires-clause-fits
@@ -42,4 +42,4 @@ pub returns-clause-once : goal.returns-clause-once
 returns-clause-once g c = λ k d low.
     subst (λ (h : List Entry). NoIdTwice h)
     (sym (c.in-Ok-cut_seats.ensures.seen k d low ∙ ap (λ (m : Me Entry PassView). m.0.seen) c.ground.invariant.4))
-    c.history.ensures.once
+    (rw c.as_book.ensures at c.history-entries.ensures.once)

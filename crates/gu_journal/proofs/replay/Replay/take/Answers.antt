@@ -1,4 +1,4 @@
-use Rattle.std.proofs.Common.{◌≡◌, ◌∙◌, List, ℕ, sym, subst, rules}
+use Rattle.std.proofs.Common.{◌≡◌, ◌∙◌, List, ℕ, ◌++◌, sym, subst, rules, arith, length-append}
 use Rattle.sha2.specs.Hashers.{Holds512}
 use Rattle.sha2.specs.declared.Sha512.{Sha512}
 use Rattle.gu_codec.specs.Answer.{pairs}
@@ -6,7 +6,8 @@ use Rattle.gu_codec.specs.Messages.{Message}
 use Rattle.gu_base.specs.House.{House}
 use Rattle.gu_journal.specs.Damages.{IsRefused, IsUnpinned}
 use Rattle.gu_journal.specs.Recovered.{Replays}
-use Rattle.gu_journal.specs.Taking.{IsPinned}
+use Rattle.gu_journal.specs.Taking.{IsPinned, Takes}
+use Rattle.gu_journal.specs.declared.replay.Stand.{Stand}
 use Rattle.gu_journal.specs.declared.damage.RecoverError.{RecoverError}
 use Rattle.gu_journal.specs.declared.replay.Stand.TheVariants.{Fresh}
 use Rattle.gu_journal.proofs.Going.{passed_on, replays_on}
@@ -15,7 +16,7 @@ use Rattle.gu_journal.proofs.replay.Replay.take.Goals.{then-eq+in_ok-check_head,
 use Rattle.gu_journal.proofs.replay.Replay.take.Goals as goal
 
 pub returns-clause-takes : goal.returns-clause-takes
-returns-clause-takes c t taken is =
+returns-clause-takes c t taken place is =
     let m = c.new-message.result in
     let pinned : c.args.self.now.stand ≡ Fresh → IsPinned c.args.pin.now.bytes m = elim c.if-eq.branch [
       | then-eq+in_ok-check_head w ↦ λ fresh. w.in_ok-check_head.ensures.ok
@@ -25,12 +26,27 @@ returns-clause-takes c t taken is =
     subst (λ (s : Sha512). Holds512 s taken) (sym c.read_meaning.ensures.hasher) is.hashed in
     let kept : Holds512 c.take_message.new.self.hasher taken =
     subst (λ (s : Sha512). Holds512 s taken) (sym c.take_message.ensures.hasher) held in
+    let stand = c.note_seal.ensures.stand in
+    let mid = c.take_message.ensures.sealed in
+    let old = c.read_meaning.ensures.sealed in
     replays_on t c.args.pin.now.bytes taken c.args.frame.now m
-    (pairs c.args.fields) c.args.self.now c.read_meaning.new.self _ c.args.book.now _ is
+    (pairs c.args.fields) c.args.self.now c.read_meaning.new.self c.note_seal.new.self c.args.book.now _ is
     c.new-message.ensures c.read_meaning.ensures.stand
+    (subst (λ (s : Stand). Takes c.args.book.now.house c.args.pin.now.bytes taken c.read_meaning.new.self.stand
+    c.args.book.now.history m s c.take_message.new.book.history) (sym stand)
     (c.in_ok-take_message.ensures.takes c.args.pin.now.bytes taken
-    (λ fresh. pinned (sym c.read_meaning.ensures.stand ∙ fresh)) held) c.in_ok-take_message.ensures.house
-    c.requires.frame (c.update.ensures taken kept)
+    (λ fresh. pinned (sym c.read_meaning.ensures.stand ∙ fresh)) held)) c.in_ok-take_message.ensures.house
+    c.requires.frame
+    (λ seal.
+    let now = c.note_seal.ensures.sealed (sym stand ∙ seal) in (
+      omega (arith, now.0, place, length-append taken c.args.frame.now),
+      now.1 ∙ c.next_number-entry.ensures.number,
+    ))
+    (λ other.
+    let now = c.note_seal.ensures.unsealed (λ e. other (stand ∙ e)) in
+    (now.0 ∙ mid.0 ∙ old.0, now.1 ∙ mid.1 ∙ old.1))
+    (subst (λ (s : Sha512). Holds512 s (taken ++ c.args.frame.now)) (sym c.note_seal.ensures.hasher)
+    (c.update.ensures taken kept))
 
 pub returns-in_err-check_head-clause-cause : goal.returns-in_err-check_head-clause-cause
 returns-in_err-check_head-clause-cause c =

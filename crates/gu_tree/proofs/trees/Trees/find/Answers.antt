@@ -1,6 +1,6 @@
 use Rattle.gu_tree.proofs.trees.Trees.find.Goals as goal
 use Rattle.gu_tree.proofs
-use proofs.Groves.{next_absent, next_there, no_above, no_root, root_place}
+use proofs.Groves.{next_absent, next_there, no_above, no_root, only_place, root_place}
 use proofs.{Parts.height_of_at, Vocabulary.{ap, arith, option_copied, sym, [], ◌-◌, ◌∙◌, ◌∷◌}}
 
 pub returns-then-part-eq0-clause-found : goal.returns-then-part-eq0-clause-found
@@ -8,6 +8,13 @@ returns-then-part-eq0-clause-found g c =
     rw (c.entry-trade.ensures, c.clear.ensures) (root_place _ c.args.name (rw c.self.view_is at c.self.invariant)
     (sym c.part.ensures.value ∙ c.if-part-eq0.true) c.in-Some.tree.now
     (rw c.entry-trade.ensures at (sym c.tree.ensures ∙ ap option_copied c.in-Some.is)))
+
+pub returns-then-part-eq0-clause-only : goal.returns-then-part-eq0-clause-only
+returns-then-part-eq0-clause-only g c =
+    only_place _ c.args.name _ _ (rw c.self.view_is at c.self.invariant)
+    (rw (c.entry-trade.ensures, c.clear.ensures) (root_place _ c.args.name (rw c.self.view_is at c.self.invariant)
+    (sym c.part.ensures.value ∙ c.if-part-eq0.true) c.in-Some.tree.now
+    (rw c.entry-trade.ensures at (sym c.tree.ensures ∙ ap option_copied c.in-Some.is))))
 
 pub returns-in_default-clause-absent : goal.returns-in_default-clause-absent
 returns-in_default-clause-absent g c =
@@ -44,4 +51,9 @@ returns g c =
     c.in-Some-named.above.node.now (rw c.in-Some-named.is at c.named.ensures.node)
     c.in-Some-part.node.now (rw c.in-Some-part.is at c.part-2.ensures.found)
     (rw c.in-Some-part.is at c.part-2.ensures.name) in
-    rw (c.push.ensures.items, c.part-3.ensures.value) (record { found = next.0; node = next.1; absent = tt })
+    rw (c.push.ensures.items, c.part-3.ensures.value) (record {
+      found = next.0;
+      only = only_place _ c.args.name _ _ (rw c.self.view_is at c.self.invariant) next.0;
+      node = next.1;
+      absent = tt;
+    })

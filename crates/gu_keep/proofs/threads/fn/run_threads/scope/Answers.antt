@@ -9,6 +9,7 @@ use Rattle.std.specs.contracts.option.Option.{the_row as OptionOf}
 use Rattle.std.specs.contracts.vec.Vec as Vec
 use Rattle.std.specs.contracts.impls.GlobalAllocator.TheImpl.{ghosts}
 use Rattle.std.specs.contracts.sync.Mutex as Mutex
+use Rattle.std.specs.contracts.time.Instant as Instant
 use Rattle.mio.proofs.poll.Poll.TheSendSync as poll
 use Rattle.gu_desk.proofs.Crossing.{desk_sync, journal_send}
 use Rattle.gu_parties.proofs.house.House.TheSendSync as house
@@ -31,6 +32,7 @@ spawn-requires-send-F g c κs within =
     let part = journal_send (param 1 g.row.J) g.J.Job g.J.Ledger in
     let kept : IsSend (param 0 g.row.K) = param_send 0 g.row.K journal in
     let room : IsSend (Vec.the_row u8 heap.the_row ghosts) = Vec-send u8 (search sendable) in
+    let moment : IsSend (OptionOf Instant.the_row) = search (crosses, sendable) depth 12 in
     let book : (ℓ : _) (κ : _) → IsSend (OptionOf (ShrRef ℓ κ NamedBook.the_row)) =
     λ ℓ κ. search (naming.the_sync, crosses, sendable) depth 12 in
     let recorded : IsSend
@@ -43,7 +45,7 @@ spawn-requires-send-F g c κs within =
             kept.owned t.0.journal vss.0,
             (
               part.owned t.0.seat vss.1.0,
-              (tt, (room.owned t.0.room vss.1.1.1.0, tt)),
+              (tt, (room.owned t.0.room vss.1.1.1.0, (tt, (moment.owned t.0.since vss.1.1.1.1.1.0, tt)))),
             ),
           ),
         )),

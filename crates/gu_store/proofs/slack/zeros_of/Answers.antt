@@ -1,5 +1,0 @@
-use Rattle.std.proofs.lemmas.List.{take-replicate}
-use Rattle.gu_store.proofs.slack.zeros_of.Goals as goal
-
-pub returns : goal.returns
-returns c = take-replicate c.args.count 65536 0 c.requires
