@@ -3,6 +3,8 @@
 The tools of this folder, checks/ and interop/ make and find frames by this module, and none of them in another way. It lies
 here so that a copy of this folder runs alone, and needs nothing but Python 3.9.
 """
+import functools
+import itertools
 import random
 import re
 import socket
@@ -58,11 +60,25 @@ def body_of(frame):
     return frame.split(b"\x01", 2)[2].rsplit(b"10=", 1)[0].decode("latin-1").replace("\x01", "|")
 
 
+@functools.cache
+def own_ports():
+    """A hundred ports, again and again, that no other process takes here by `free_port` while this one runs: whoever has them
+    has a name in the system that one process can have. They lie below those that connections get by themselves (32,768 and
+    up), so that none of these takes one before a server does, or between two servers."""
+    for first in random.SystemRandom().sample(range(10_000, 32_000, 100), 220):
+        owner = socket.socket(socket.AF_UNIX)
+        try:
+            owner.bind(f"\0allocd-ports-{first}")
+            return owner, itertools.cycle(range(first, first + 100))
+        except OSError:
+            owner.close()
+    raise OSError("all ports from 10,000 to 31,999 are other processes'")
+
+
 def free_port():
-    """A port of 127.0.0.1 on which nobody listens. It lies below those that connections get by themselves (32,768 and up), so
-    that none of these takes it before a server does, or between two servers."""
+    """A port of 127.0.0.1 on which nobody listens, and that is given to nobody else before 99 others."""
     while True:
-        port = random.SystemRandom().randrange(10_000, 32_000)
+        port = next(own_ports()[1])
         with socket.socket() as probe:
             try:
                 probe.bind(("127.0.0.1", port))

@@ -25,6 +25,8 @@ pub(crate) struct Clients<'a, J: Job> {
     strangers: Vec<Option<Stranger>>,
     free: Vec<usize>,
     open: usize,
+    /// The places of those that are ready in this round.
+    pub(crate) ready: Vec<usize>,
     /// The places of those without a Logon, in the order in which they came.
     unnamed: VecDeque<usize>,
     /// The places of those that have something to be sent.
@@ -70,6 +72,7 @@ impl<'a, J: Job> Clients<'a, J> {
             strangers: Vec::new(alloc),
             free: Vec::new(alloc),
             open: 0,
+            ready: Vec::new(alloc),
             unnamed: VecDeque::new(alloc),
             sending: Vec::new(alloc),
             to_send: Vec::new(alloc),
@@ -120,10 +123,12 @@ impl<'a, J: Job> Clients<'a, J> {
         found
     }
 
-    /// Makes room in the lists for one connection more, so that each has all of them.
+    /// Makes room in the lists for one connection more, so that each has all of them. One is ready
+    /// at most three times in a round: by the poll, in a hurry, and since calls wait.
     fn make_room(&mut self) -> bool {
         let most = self.places.len().saturating_add(1);
-        self.sending.reserve(most).is_ok()
+        self.ready.reserve(most.saturating_mul(3)).is_ok()
+            && self.sending.reserve(most).is_ok()
             && self.to_send.reserve(most).is_ok()
             && self.hurried.reserve(most).is_ok()
             && self.resting.reserve(most).is_ok()
@@ -246,15 +251,15 @@ impl<'a, J: Job> Clients<'a, J> {
         !self.late.is_empty()
     }
 
-    /// Has those on which calls wait be asked again: their places go behind these.
-    pub(crate) fn ask_late(&mut self, ready: &mut Vec<usize>) {
+    /// Has those on which calls wait be asked again: they are ready.
+    pub(crate) fn ask_late(&mut self) {
         for _ in 0..self.late.len() {
             let Some(at) = self.late.pop() else {
                 return;
             };
             if let Some(Some(client)) = self.places.get_mut(at) {
                 client.waits_no_more();
-                let _ = ready.push(at);
+                let _ = self.ready.push(at);
             }
         }
     }

@@ -58,8 +58,6 @@ pub(crate) struct Keeper<'a, K: OpenJournal, J: Job, R, G> {
 /// What a round is about.
 #[derive(Drop)]
 struct Round<J: Job> {
-    /// The places of the connections that are ready.
-    ready: Vec<usize>,
     /// Whether the worker was woken.
     woken: bool,
     /// Where reads put their bytes.
@@ -82,7 +80,7 @@ struct Round<J: Job> {
 
 /// Notes which connections are ready, and whether the worker was woken.
 fn note<J: Job>(events: &Events, clients: &mut Clients<'_, J>, round: &mut Round<J>) {
-    round.ready.clear();
+    clients.ready.clear();
     round.woken = false;
     for event in events.iter() {
         let at = event.token().0;
@@ -91,7 +89,7 @@ fn note<J: Job>(events: &Events, clients: &mut Clients<'_, J>, round: &mut Round
         } else if clients.stranger_at(at).is_some() {
             let readable = event.is_readable() || event.is_error();
             if clients.note_stranger(at, readable, event.is_read_closed()) {
-                let _ = round.ready.push(at);
+                let _ = clients.ready.push(at);
             }
         } else if clients.at(at).is_none() {
             clients.note_lingering(Some(at), round.second);
@@ -99,7 +97,7 @@ fn note<J: Job>(events: &Events, clients: &mut Clients<'_, J>, round: &mut Round
             let readable = event.is_readable() || event.is_error();
             let writable = event.is_writable() || event.is_error();
             client.note(readable, event.is_read_closed(), writable);
-            let _ = round.ready.push(at);
+            let _ = clients.ready.push(at);
         }
     }
 }
@@ -113,12 +111,12 @@ fn hurry<J: Job>(clients: &mut Clients<'_, J>, round: &mut Round<J>) {
         };
         if let Some(Some(client)) = clients.places.get_mut(at) {
             client.hurries = false;
-            let _ = round.ready.push(at);
+            let _ = clients.ready.push(at);
         }
     }
     if round.millis / LATE_WAIT != round.late_asked {
         round.late_asked = round.millis / LATE_WAIT;
-        clients.ask_late(&mut round.ready);
+        clients.ask_late();
     }
 }
 
@@ -390,8 +388,8 @@ impl<'a, K: OpenJournal, J: Job, R: Wait + Clock, G: Gate> Keeper<'a, K, J, R, G
     fn turns(&self, seat: Seat<J>, clients: &mut Clients<'a, J>, round: &mut Round<J>) -> Seat<J> {
         let mut seat = seat;
         let second = round.second;
-        for _ in 0..round.ready.len() {
-            let Some(at) = round.ready.pop() else {
+        for _ in 0..clients.ready.len() {
+            let Some(at) = clients.ready.pop() else {
                 break;
             };
             self.know(&mut seat, clients, second, at);
@@ -752,7 +750,6 @@ impl<'a, K: OpenJournal, J: Job, R: Wait + Clock, G: Gate> Keeper<'a, K, J, R, G
             return (Some(seat), Err(KeepError::Memory));
         };
         let mut round = Round {
-            ready: Vec::new(alloc),
             woken: false,
             piece,
             millis: 0,

@@ -15,6 +15,9 @@ use std::time::{Clock, Duration};
 /// How many events a poll brings.
 const MOST_EVENTS: usize = 4;
 
+/// After how many milliseconds in which nobody asked the thread of the journal looks at it.
+const LOOK_WAIT: u64 = 500;
+
 /// No worker has this place among the bells.
 const NOBODY: u32 = u32::MAX;
 
@@ -89,8 +92,9 @@ fn record_told<K: OpenJournal, J: Job, R: Wait + Clock, G>(
     recorded
 }
 
-/// Has an empty group put behind the last one, where that is a second old, and tells whoever looks
-/// meanwhile. Where memory lacks for that, or this moment can't be told, it is tried again later.
+/// Has an empty group put behind the last one, where that is half a second old, and tells whoever
+/// looks meanwhile. Where memory lacks for that, or this moment can't be told, it is tried again
+/// later.
 fn cover_told<K: OpenJournal, J: Job, R: Clock, G>(
     worker: &Worker<'_, J, R, G>,
     recorder: &mut Recorder<K, J>,
@@ -179,7 +183,7 @@ impl<'a, K: OpenJournal, J: Job, R: Wait + Clock, G> Scribe<'a, K, J, R, G> {
         if self.lacks_memory() {
             Duration::from_millis(LATE_WAIT)
         } else {
-            Duration::from_secs(1)
+            Duration::from_millis(LOOK_WAIT)
         }
     }
 

@@ -19,8 +19,9 @@ use std::marker::Model;
 use std::sync::Wait;
 use std::time::{Clock, Instant};
 
-/// After how many milliseconds the last group has an empty one behind it, if no other comes.
-const COVERED_AFTER: u128 = 1_000;
+/// After how many milliseconds an empty group is due behind the last one, if no other comes. Who
+/// looks each half second has it there within a second.
+const COVERED_AFTER: u128 = 500;
 
 /// A journal, and its seat at the desk. Once the journal has failed nothing more is recorded.
 ///
@@ -284,7 +285,7 @@ impl<K: OpenJournal, J: Job> Recorder<K, J> {
         Ok(())
     }
 
-    /// The same, once a second has passed since the last group.
+    /// The same, once half a second has passed since the last group.
     ///
     /// # Errors
     ///
