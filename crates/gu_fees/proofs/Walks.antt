@@ -10,12 +10,12 @@ use specs.declared.house.{Dealing.Dealing, Deed.Deed}
 use specs.Terms.{raised_by_deed, raised_under, used_by_deed, used_under}
 use std.proofs.Common.{add-one, ap, append_assoc, arith, drop, drop-cons, false, get_or, inl, inr, length}
 use std.proofs.Common.{length-append, length-drop, length-take, List, min, refl, set, suc, sym, take, true, true≢false}
-use std.proofs.Common.{zero, [], ℕ, ◌%◌, ◌*◌, ◌++◌, ◌+◌, ◌-◌, ◌<◌, ◌∙◌, ◌∷◌, ◌≡◌, ◌≢◌, ◌≤◌}
+use std.proofs.Common.{zero, [], ℕ, ◌*◌, ◌++◌, ◌+◌, ◌-◌, ◌<◌, ◌∙◌, ◌∷◌, ◌≡◌, ◌≤◌}
 use std.proofs.lemmas.{Bool.{cases_Bool, Decides.nat_tests, le-ltb}, List.Elements.filter_map-append, List.map-append}
 use std.proofs.lemmas.List.{drop-append-le, drop-drop, drop-set-add, drop-set-lt, drop-take, drop_all, length-set}
 use std.proofs.lemmas.List.{take-append-drop, take-append-le, take-set-le, take-take, take_all}
-use std.proofs.lemmas.List.Sums.{fold_push, sum_by-append, sum_by-cons}
-use std.proofs.Math.{Bool.or-true, Seq.{drop-nil, take-add, take-nil}}
+use std.proofs.lemmas.List.Sums.{sum_by-append, sum_by-cons}
+use std.proofs.Math.{Bool.or-true, Seq.{take-add}}
 use std.specs.{List.fold, Prelude.{nat_lt, None, Result, Some, sum_by}}
 
 -- ---- deeds of two lists
@@ -134,149 +134,150 @@ pub parts_of_deeds : (n : ℕ) (fs : List (Filed Deed)) → deeds_in fs ≡ deed
 parts_of_deeds n fs = ap deeds_in (sym (take-append-drop n fs)) ∙ deeds-append (take n fs) (drop n fs)
 
 -- a block in which there is none may be stepped over
-pub step_none : (b : Block) (fs : List (Filed Deed)) → b ≡ block_of (deeds_in (take 256 fs)) → b.has_under_terms ≡ false
-    → first_under_terms (deeds_in (drop 256 fs)) ≡ first_under_terms (deeds_in fs)
+pub step_none : (b : Block) (fs : List (Filed Deed)) → b ≡ block_of (deeds_in (take 128 fs)) → b.has_under_terms ≡ false
+    → first_under_terms (deeds_in (drop 128 fs)) ≡ first_under_terms (deeds_in fs)
 step_none b fs is none =
-    sym (ap first_under_terms (parts_of_deeds 256 fs)
-    ∙ none_from no_block (deeds_in (take 256 fs)) (deeds_in (drop 256 fs)) (rw is at none))
+    sym (ap first_under_terms (parts_of_deeds 128 fs)
+    ∙ none_from no_block (deeds_in (take 128 fs)) (deeds_in (drop 128 fs)) (rw is at none))
 
 -- in a block that has one is the first
-pub step_some : (b : Block) (fs : List (Filed Deed)) → b ≡ block_of (deeds_in (take 256 fs)) → b.has_under_terms ≡ true
-    → first_under_terms (deeds_in (take 256 fs)) ≡ first_under_terms (deeds_in fs)
+pub step_some : (b : Block) (fs : List (Filed Deed)) → b ≡ block_of (deeds_in (take 128 fs)) → b.has_under_terms ≡ true
+    → first_under_terms (deeds_in (take 128 fs)) ≡ first_under_terms (deeds_in fs)
 step_some b fs is has =
-    sym (ap first_under_terms (parts_of_deeds 256 fs)
-    ∙ some_from no_block (deeds_in (take 256 fs)) (deeds_in (drop 256 fs)) refl (rw is at has))
+    sym (ap first_under_terms (parts_of_deeds 128 fs)
+    ∙ some_from no_block (deeds_in (take 128 fs)) (deeds_in (drop 128 fs)) refl (rw is at has))
 
 -- ---- the blocks of a list
 
-pub blocks_hold : (bs : List Block) (fs : List (Filed Deed)) → AreBlocks bs fs → length fs ≤ 256 * length bs
-blocks_hold [] fs are = rw are (omega arith)
-blocks_hold (b ∷ bs) fs are = omega (arith, blocks_hold bs (drop 256 fs) are.2, length-drop 256 fs)
+pub blocks_hold : (bs : List Block) (fs : List (Filed Deed)) → AreBlocks bs fs
+    → (length bs * 128 ≤ length fs) × (length fs < length bs * 128 + 128)
+blocks_hold [] fs are = (omega arith, omega (arith, are))
+blocks_hold (b ∷ bs) fs are =
+    let rest = blocks_hold bs (drop 128 fs) are.2 in
+    (omega (arith, rest.0, are.0, length-drop 128 fs), omega (arith, rest.1, are.0, length-drop 128 fs))
 
--- a block is of no more than all
-pub blocks_small : (bs : List Block) (fs : List (Filed Deed)) (k : ℕ) (u : Block) → AreBlocks bs fs → k < length bs
-    → ((get_or bs k u).need ≤ used_under (deeds_in fs)) × ((get_or bs k u).left ≤ raised_under (deeds_in fs))
-blocks_small [] fs k u are low = absurd (omega arith)
-blocks_small (b ∷ bs) fs zero u are low =
-    let small = block_small (deeds_in (take 256 fs)) in
-    let used = counted_parts used_by_deed 256 fs in
-    let raised = counted_parts raised_by_deed 256 fs in
-    rw are.1 (omega (arith, used, small.0), omega (arith, raised, small.1))
-blocks_small (b ∷ bs) fs (suc k) u are low =
-    let rest = blocks_small bs (drop 256 fs) k u are.2 (omega arith) in
-    let used = counted_parts used_by_deed 256 fs in
-    let raised = counted_parts raised_by_deed 256 fs in
-    (omega (arith, used, rest.0), omega (arith, raised, rest.1))
+-- a block that begins behind others has its place among all
+pub block_there : (i : ℕ) (fs : List (Filed Deed)) → 128 ≤ length (drop (i * 128) fs) → i * 128 + 128 ≤ length fs
+block_there i fs there = omega (arith, there, length-drop (i * 128) fs)
 
--- one more, as a block of its own
-pub put_new : (bs : List Block) (fs : List (Filed Deed)) (x : Filed Deed) → AreBlocks bs fs → length fs % 256 ≡ 0
-    → AreBlocks (bs ++ block_of (deeds_in (x ∷ [])) ∷ []) (fs ++ x ∷ [])
-put_new [] fs x are full = rw are (omega arith, refl, refl)
-put_new (b ∷ bs) fs x are full =
-    let whole : 256 ≤ length fs = omega (arith, are.0) in
-    let rest = put_new bs (drop 256 fs) x are.2 (omega (arith, length-drop 256 fs)) in (
-      omega (arith, length-append fs (x ∷ [])),
-      rw (take-append-le 256 fs (x ∷ []) whole) are.1,
-      rw (drop-append-le 256 fs (x ∷ []) whole) rest,
+-- the deeds behind a block more
+pub next_block : (i : ℕ) (fs : List (Filed Deed)) → drop 128 (drop (i * 128) fs) ≡ drop ((i + 1) * 128) fs
+next_block i fs =
+    let more : i * 128 + 128 ≡ (i + 1) * 128 = omega arith in drop-drop 128 (i * 128) fs ∙ ap (λ j. drop j fs) more
+
+after_first : (i : ℕ) (fs : List (Filed Deed)) → drop (suc i * 128) fs ≡ drop (i * 128) (drop 128 fs)
+after_first i fs =
+    let start : suc i * 128 ≡ 128 + i * 128 = omega arith in
+    ap (λ j. drop j fs) start ∙ sym (drop-drop (i * 128) 128 fs)
+
+-- one more, which makes as many as a block has
+pub put_last : (bs : List Block) (fs : List (Filed Deed)) (x : Filed Deed) → AreBlocks bs fs
+    → length bs * 128 + 128 ≤ length (fs ++ x ∷ [])
+    → AreBlocks (bs ++ block_of (deeds_in (drop (length bs * 128) (fs ++ x ∷ []))) ∷ []) (fs ++ x ∷ [])
+put_last [] fs x are whole =
+    let len = length-append fs (x ∷ []) in (
+      whole,
+      ap (λ l. block_of (deeds_in l)) (sym (take_all 128 (fs ++ x ∷ []) (omega (arith, len, are)))),
+      omega (arith, len, are, length-drop 128 (fs ++ x ∷ [])),
     )
-
--- one more in the last block
-pub put_more : (bs : List Block) (fs : List (Filed Deed)) (k : ℕ) (u : Block) (n : ℕ) (d : Deed) → AreBlocks bs fs
-    → length fs % 256 ≢ 0 → k + 1 ≡ length bs
-    → AreBlocks (set bs k (block_with (get_or bs k u) d)) (fs ++ record { number = n; kept = Some d } ∷ [])
-put_more [] fs k u n d are part last = absurd (omega arith)
-put_more (b ∷ []) fs zero u n d are part last =
-    let x : Filed Deed = record { number = n; kept = Some d } in
-    let short : length fs < 256 = omega (arith, ap length are.2, length-drop 256 fs) in
+put_last (b ∷ bs) fs x are whole =
     let len = length-append fs (x ∷ []) in
-    let pushed : block_of (deeds_in (fs ++ x ∷ [])) ≡ block_with (block_of (deeds_in fs)) d =
-    ap (λ l. block_of l) (deeds-append fs (x ∷ []))
-    ∙ fold_push (λ (b : Block) (d : Dealing). block_with b d.deed) no_block (deeds_in fs)
-    (record { number = n; deed = d }) in (
-      omega (arith, len),
-      rw (are.1, take_all 256 fs (omega arith), take_all 256 (fs ++ x ∷ []) (omega (arith, len))) (sym pushed),
-      drop_all 256 (fs ++ x ∷ []) (omega (arith, len)),
-    )
-put_more (b ∷ []) fs (suc k) u n d are part last = absurd (omega arith)
-put_more (b ∷ c ∷ bs) fs zero u n d are part last = absurd (omega arith)
-put_more (b ∷ c ∷ bs) fs (suc k) u n d are part last =
-    let x : Filed Deed = record { number = n; kept = Some d } in
-    let whole : 256 ≤ length fs = omega (arith, are.2.0, length-drop 256 fs) in
-    let rest = put_more (c ∷ bs) (drop 256 fs) k u n d are.2
-    (λ (is : length (drop 256 fs) % 256 ≡ 0). part (omega (arith, length-drop 256 fs))) (omega arith) in (
-      omega (arith, length-append fs (x ∷ [])),
-      rw (take-append-le 256 fs (x ∷ []) whole) are.1,
-      rw (drop-append-le 256 fs (x ∷ []) whole) rest,
+    let behind = drop-append-le 128 fs (x ∷ []) are.0 in
+    let rest = put_last bs (drop 128 fs) x are.2
+    (omega (arith, whole, len, length-append (drop 128 fs) (x ∷ []), length-drop 128 fs, are.0)) in (
+      omega (arith, len, are.0),
+      rw (take-append-le 128 fs (x ∷ []) are.0) are.1,
+      rw (after_first (length bs) (fs ++ x ∷ []), behind) rest,
     )
 
--- one in the place of another
-pub renewed : (bs : List Block) (fs : List (Filed Deed)) (i p : ℕ) (f : Filed Deed) → AreBlocks bs fs → i * 256 ≤ p
-    → p < i * 256 + 256 → p < length fs
-    → AreBlocks (set bs i (block_of (deeds_in (take 256 (drop (i * 256) (set fs p f)))))) (set fs p f)
-renewed [] fs i p f are low high within = absurd (omega (arith, ap length are))
-renewed (b ∷ bs) fs zero p f are low high within =
-    let short : p < 256 = omega arith in
-    (omega (arith, length-set fs p f), refl, rw (drop-set-lt 256 fs p f short) are.2)
-renewed (b ∷ bs) fs (suc i) p f are low high within =
-    let q = p - 256 in
-    let there : p ≡ 256 + q = omega arith in
-    let start : suc i * 256 ≡ 256 + i * 256 = omega arith in
-    let behind : drop 256 (set fs p f) ≡ set (drop 256 fs) q f =
-    ap (λ j. drop 256 (set fs j f)) there ∙ drop-set-add 256 fs q f in
-    let part : drop (suc i * 256) (set fs p f) ≡ drop (i * 256) (set (drop 256 fs) q f) =
-    ap (λ j. drop j (set fs p f)) start
-    ∙ (sym (drop-drop (i * 256) 256 (set fs p f)) ∙ ap (drop (i * 256)) behind) in
-    let rest = renewed bs (drop 256 fs) i q f are.2 (omega arith) (omega arith) (omega (arith, length-drop 256 fs)) in (
-      omega (arith, length-set fs p f),
-      rw (take-set-le 256 fs p f (omega arith)) are.1,
-      rw (part, behind) rest,
+-- one more, which makes fewer
+pub put_behind : (bs : List Block) (fs : List (Filed Deed)) (x : Filed Deed) → AreBlocks bs fs
+    → length (fs ++ x ∷ []) < length bs * 128 + 128 → AreBlocks bs (fs ++ x ∷ [])
+put_behind [] fs x are few = omega (arith, few)
+put_behind (b ∷ bs) fs x are few =
+    let len = length-append fs (x ∷ []) in
+    let rest = put_behind bs (drop 128 fs) x are.2
+    (omega (arith, few, len, length-append (drop 128 fs) (x ∷ []), length-drop 128 fs, are.0)) in (
+      omega (arith, len, are.0),
+      rw (take-append-le 128 fs (x ∷ []) are.0) are.1,
+      rw (drop-append-le 128 fs (x ∷ []) are.0) rest,
     )
+
+-- what stands behind the first block, where one in it or behind it has another in its place
+behind_set : (p : ℕ) (fs : List (Filed Deed)) (f : Filed Deed) → 128 ≤ p
+    → drop 128 (set fs p f) ≡ set (drop 128 fs) (p - 128) f
+behind_set p fs f far =
+    let there : p ≡ 128 + (p - 128) = omega arith in
+    ap (λ j. drop 128 (set fs j f)) there ∙ drop-set-add 128 fs (p - 128) f
+
+-- one in the place of another, in a block
+pub renewed : (bs : List Block) (fs : List (Filed Deed)) (i p : ℕ) (f : Filed Deed) → AreBlocks bs fs → i < length bs
+    → i * 128 ≤ p → p < i * 128 + 128
+    → AreBlocks (set bs i (block_of (deeds_in (take 128 (drop (i * 128) (set fs p f)))))) (set fs p f)
+renewed [] fs i p f are there low high = absurd (omega arith)
+renewed (b ∷ bs) fs zero p f are there low high =
+    (omega (arith, length-set fs p f, are.0), refl, rw (drop-set-lt 128 fs p f (omega arith)) are.2)
+renewed (b ∷ bs) fs (suc i) p f are there low high =
+    let behind = behind_set p fs f (omega arith) in
+    let rest = renewed bs (drop 128 fs) i (p - 128) f are.2 (omega arith) (omega arith) (omega arith) in (
+      omega (arith, length-set fs p f, are.0),
+      rw (take-set-le 128 fs p f (omega arith)) are.1,
+      rw (after_first i (set fs p f), behind) rest,
+    )
+
+-- one in the place of another, behind the blocks
+pub set_behind : (bs : List Block) (fs : List (Filed Deed)) (p : ℕ) (f : Filed Deed) → AreBlocks bs fs
+    → length bs * 128 ≤ p → AreBlocks bs (set fs p f)
+set_behind [] fs p f are low = omega (arith, length-set fs p f, are)
+set_behind (b ∷ bs) fs p f are low = (
+  omega (arith, length-set fs p f, are.0),
+  rw (take-set-le 128 fs p f (omega arith)) are.1,
+  rw (behind_set p fs f (omega arith)) (set_behind bs (drop 128 fs) (p - 128) f are.2 (omega arith)),
+)
 
 -- the first blocks
-pub blocks_before : (bs : List Block) (fs : List (Filed Deed)) (i : ℕ) → AreBlocks bs fs
-    → AreBlocks (take i bs) (take (i * 256) fs)
-blocks_before bs fs zero are = refl
-blocks_before [] fs (suc i) are = rw are (take-nil (suc i * 256))
-blocks_before (b ∷ bs) fs (suc i) are =
-    let start : suc i * 256 ≡ 256 + i * 256 = omega arith in
+pub blocks_before : (bs : List Block) (fs : List (Filed Deed)) (i : ℕ) → AreBlocks bs fs → i ≤ length bs
+    → AreBlocks (take i bs) (take (i * 128) fs)
+blocks_before bs fs zero are low = omega arith
+blocks_before [] fs (suc i) are low = absurd (omega arith)
+blocks_before (b ∷ bs) fs (suc i) are low =
+    let start : suc i * 128 ≡ 128 + i * 128 = omega arith in
     rw start (
-      omega (arith, length-take (256 + i * 256) fs, are.0),
-      rw (take-take 256 (256 + i * 256) fs (omega arith)) are.1,
-      rw (drop-take 256 (i * 256) fs) (blocks_before bs (drop 256 fs) i are.2),
+      omega (arith, length-take (128 + i * 128) fs, are.0),
+      rw (take-take 128 (128 + i * 128) fs (omega arith)) are.1,
+      rw (drop-take 128 (i * 128) fs) (blocks_before bs (drop 128 fs) i are.2 (omega arith)),
     )
 
 -- those behind
 pub blocks_behind : (bs : List Block) (fs : List (Filed Deed)) (i : ℕ) → AreBlocks bs fs
-    → AreBlocks (drop i bs) (drop (i * 256) fs)
+    → AreBlocks (drop i bs) (drop (i * 128) fs)
 blocks_behind bs fs zero are = are
-blocks_behind [] fs (suc i) are = rw are (drop-nil (suc i * 256))
-blocks_behind (b ∷ bs) fs (suc i) are =
-    let start : suc i * 256 ≡ 256 + i * 256 = omega arith in
-    rw (start, ← drop-drop (i * 256) 256 fs) (blocks_behind bs (drop 256 fs) i are.2)
+blocks_behind [] fs (suc i) are = omega (arith, are, length-drop (suc i * 128) fs)
+blocks_behind (b ∷ bs) fs (suc i) are = rw (after_first i fs) (blocks_behind bs (drop 128 fs) i are.2)
 
-pub block_behind : (bs : List Block) (fs : List (Filed Deed)) → AreBlocks bs fs → AreBlocks (drop 1 bs) (drop 256 fs)
-block_behind [] fs are = rw are (drop-nil 256)
+pub block_behind : (bs : List Block) (fs : List (Filed Deed)) → AreBlocks bs fs → AreBlocks (drop 1 bs) (drop 128 fs)
+block_behind [] fs are = omega (arith, are, length-drop 128 fs)
 block_behind (b ∷ bs) fs are = are.2
 
 -- ---- the parts round a place
 
-pub drop_min : (n : ℕ) (fs : List (Filed Deed)) → drop (min n (length fs)) fs ≡ drop n fs
+pub drop_min : {A : Type 0} (n : ℕ) (fs : List A) → drop (min n (length fs)) fs ≡ drop n fs
 drop_min n fs = grind (arith, drop_all)
 
-pub parts_round : (fs : List (Filed Deed)) (s r : ℕ) → r < 256 → s + r < length fs
-    → (let these = take 256 (drop s fs) in take (s + r) fs ++ drop (s + r + 1) fs
-    ≡ take s fs ++ (take r these ++ (drop 1 (drop r these) ++ drop 256 (drop s fs))))
+pub parts_round : (fs : List (Filed Deed)) (s r : ℕ) → r < 128 → s + r < length fs
+    → (let these = take 128 (drop s fs) in take (s + r) fs ++ drop (s + r + 1) fs
+    ≡ take s fs ++ (take r these ++ (drop 1 (drop r these) ++ drop 128 (drop s fs))))
 parts_round fs s r low within =
     let rest = drop s fs in
-    let these = take 256 rest in
-    let cut : drop (r + 1) rest ≡ drop 1 (drop r these) ++ drop 256 rest =
-    ap (drop (r + 1)) (sym (take-append-drop 256 rest))
-    ∙ (drop-append-le (r + 1) these (drop 256 rest) (omega (arith, length-take 256 rest, length-drop s fs))
-    ∙ ap (λ l. l ++ drop 256 rest) (sym (drop-drop 1 r these))) in
+    let these = take 128 rest in
+    let cut : drop (r + 1) rest ≡ drop 1 (drop r these) ++ drop 128 rest =
+    ap (drop (r + 1)) (sym (take-append-drop 128 rest))
+    ∙ (drop-append-le (r + 1) these (drop 128 rest) (omega (arith, length-take 128 rest, length-drop s fs))
+    ∙ ap (λ l. l ++ drop 128 rest) (sym (drop-drop 1 r these))) in
     let next : s + (r + 1) ≡ s + r + 1 = omega arith in
     let behind : drop (s + r + 1) fs ≡ drop (r + 1) rest = sym (drop-drop (r + 1) s fs ∙ ap (λ j. drop j fs) next) in
     let before : take (s + r) fs ≡ take s fs ++ take r these =
-    take-add s r fs ∙ ap (λ l. take s fs ++ l) (sym (take-take r 256 rest (omega arith))) in
+    take-add s r fs ∙ ap (λ l. take s fs ++ l) (sym (take-take r 128 rest (omega arith))) in
     rw (before, behind, cut) (simp append_assoc)
 
 -- ---- the steps of walks
@@ -302,22 +303,22 @@ deeds_cut n fs later =
 
 -- the block at a place is the first of those from there on
 pub blocks_at : (bs : List Block) (i : ℕ) (u : Block) (fs : List (Filed Deed)) → i < length bs
-    → AreBlocks (drop i bs) fs → (0 < length fs) × (get_or bs i u ≡ block_of (deeds_in (take 256 fs)))
-    × AreBlocks (drop (i + 1) bs) (drop 256 fs)
+    → AreBlocks (drop i bs) fs → (128 ≤ length fs) × (get_or bs i u ≡ block_of (deeds_in (take 128 fs)))
+    × AreBlocks (drop (i + 1) bs) (drop 128 fs)
 blocks_at bs i u fs low are = rw add-one (rw (drop-cons bs i u low) at are)
 
-pub step_block : (b : Block) (fs : List (Filed Deed)) (room : ℕ) → b ≡ block_of (deeds_in (take 256 fs)) → b.need ≤ room
+pub step_block : (b : Block) (fs : List (Filed Deed)) (room : ℕ) → b ≡ block_of (deeds_in (take 128 fs)) → b.need ≤ room
     → (later : List Dealing) → first_over room 0 (deeds_in fs ++ later)
-    ≡ first_over (room - b.need + b.left) 0 (deeds_in (drop 256 fs) ++ later)
+    ≡ first_over (room - b.need + b.left) 0 (deeds_in (drop 128 fs) ++ later)
 step_block b fs room is fits later =
-    ap (first_over room 0) (deeds_cut 256 fs later)
-    ∙ rw is (step_over (deeds_in (take 256 fs)) room (deeds_in (drop 256 fs) ++ later) (rw is at fits))
+    ap (first_over room 0) (deeds_cut 128 fs later)
+    ∙ rw is (step_over (deeds_in (take 128 fs)) room (deeds_in (drop 128 fs) ++ later) (rw is at fits))
 
 pub step_walk : (fs : List (Filed Deed)) (room : ℕ) (r : Result ℕ ℕ)
-    → ((later : List Dealing) → first_over room 0 (deeds_in (take 256 fs) ++ later) ≡ goes_on r later)
-    → (later : List Dealing) → first_over room 0 (deeds_in fs ++ later) ≡ goes_on r (deeds_in (drop 256 fs) ++ later)
+    → ((later : List Dealing) → first_over room 0 (deeds_in (take 128 fs) ++ later) ≡ goes_on r later)
+    → (later : List Dealing) → first_over room 0 (deeds_in fs ++ later) ≡ goes_on r (deeds_in (drop 128 fs) ++ later)
 step_walk fs room r goes later =
-    ap (first_over room 0) (deeds_cut 256 fs later) ∙ goes (deeds_in (drop 256 fs) ++ later)
+    ap (first_over room 0) (deeds_cut 128 fs later) ∙ goes (deeds_in (drop 128 fs) ++ later)
 
 -- a walk past a deed that there is room for
 pub walk_step : (fs : List (Filed Deed)) (i : ℕ) (u : Filed Deed) (d : Deed) (room next : ℕ) → i < length fs
@@ -343,8 +344,8 @@ walk_step fs i u d room next low here kept within is =
 
 -- what is dealt but for the deed of a place: before its block, in it before and behind the place, and behind the block
 pub deeds_round : (fs : List (Filed Deed)) (p s r : ℕ) {before rest these first others last behind : List (Filed Deed)}
-    → before ≡ take s fs → rest ≡ drop s fs → these ≡ take 256 rest → behind ≡ drop 256 rest → first ≡ take r these
-    → others ≡ drop r these → last ≡ drop 1 others → p ≡ s + r → r < 256 → p < length fs → (later : List Dealing)
+    → before ≡ take s fs → rest ≡ drop s fs → these ≡ take 128 rest → behind ≡ drop 128 rest → first ≡ take r these
+    → others ≡ drop r these → last ≡ drop 1 others → p ≡ s + r → r < 128 → p < length fs → (later : List Dealing)
     → deeds_in (take p fs ++ drop (p + 1) fs) ++ later
     ≡ deeds_in before ++ (deeds_in first ++ (deeds_in last ++ (deeds_in behind ++ later)))
 deeds_round fs p s r {before} {rest} {these} {first} {others} {last} {behind} is_before is_rest is_these is_behind
@@ -359,14 +360,14 @@ deeds_round fs p s r {before} {rest} {these} {first} {others} {last} {behind} is
     ∙ simp append_assoc)
 
 pub raised_round : (fs : List (Filed Deed)) (s r : ℕ) {before rest these first others last behind : List (Filed Deed)}
-    → before ≡ take s fs → rest ≡ drop s fs → these ≡ take 256 rest → behind ≡ drop 256 rest → first ≡ take r these
+    → before ≡ take s fs → rest ≡ drop s fs → these ≡ take 128 rest → behind ≡ drop 128 rest → first ≡ take r these
     → others ≡ drop r these → last ≡ drop 1 others
     → raised_under (deeds_in before) + raised_under (deeds_in first) + raised_under (deeds_in last)
     + raised_under (deeds_in behind) ≤ raised_under (deeds_in fs)
 raised_round fs s r {before} {rest} {these} {first} {others} {last} {behind} is_before is_rest is_these is_behind
     is_first is_others is_last =
     let whole = counted_parts raised_by_deed s fs in
-    let right = counted_parts raised_by_deed 256 rest in
+    let right = counted_parts raised_by_deed 128 rest in
     let block = counted_parts raised_by_deed r these in
     let others_parts = counted_parts raised_by_deed 1 others in
     omega (

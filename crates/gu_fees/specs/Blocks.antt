@@ -1,5 +1,5 @@
 -- What the deeds of a giver and a taker come to, block by block.
-use Rattle.std.specs.Prelude.{◌≡◌, ℕ, ◌+◌, ◌-◌, ◌<◌, List, [], ◌∷◌, length, take, drop, Option}
+use Rattle.std.specs.Prelude.{◌≡◌, ℕ, ◌+◌, ◌-◌, ◌<◌, ◌≤◌, List, [], ◌∷◌, length, take, drop, Option}
 use Rattle.std.specs.Prelude.{Some, is_none, Result, Ok, Err, Bool, false, ◌||◌}
 use Rattle.std.specs.List.{fold}
 use Rattle.gu_base.specs.Dealt.{first_over}
@@ -36,11 +36,11 @@ block_with b d = record {
 abbrev pub block_of : List Dealing → Block
 block_of ds = fold (λ b d. block_with b d.deed) no_block ds
 
--- the blocks of what is filed: each of the next 256, and the last of what is left
+-- the blocks of what is filed: each of the next 128; behind the last stand fewer
 abbrev pub AreBlocks : List Block → List (Filed Deed) → Type 0
-AreBlocks [] fs = fs ≡ []
-AreBlocks (b ∷ bs) fs = (0 < length fs) × (b ≡ block_of (deeds_in (take 256 fs)))
-    × AreBlocks bs (drop 256 fs)
+AreBlocks [] fs = length fs < 128
+AreBlocks (b ∷ bs) fs = (128 ≤ length fs) × (b ≡ block_of (deeds_in (take 128 fs)))
+    × AreBlocks bs (drop 128 fs)
 
 -- what comes of a walk, where others stand behind: the room that it left goes on, or it ended
 abbrev pub goes_on : Result ℕ ℕ → List Dealing → Option ℕ

@@ -1,7 +1,7 @@
 //! What the deeds of a pair come to, block by block, so that a walk over them steps over most.
 ghost use Rattle.std.specs.Prelude.{◌≡◌, ◌+◌, ◌-◌, ◌*◌, ◌≤◌, ◌<◌, ◌^◌, ◌++◌, ◌∷◌, [], ℕ, List};
 ghost use Rattle.std.specs.Prelude.{set, take, drop, min, None, Some, IfOk, IsTrue, ◌↔◌, vec_len};
-ghost use Rattle.std.specs.Prelude.{vec_capacity, length, ◌%◌};
+ghost use Rattle.std.specs.Prelude.{vec_capacity, length, OnOk};
 ghost use Rattle.gu_base.specs.Terms.{raised_by_deed, raised_under, used_by_deed, used_under};
 ghost use Rattle.gu_base.specs.Dealt.{first_over, first_under_terms};
 ghost use Rattle.gu_base.specs.declared.house.Dealing.{Dealing};
@@ -12,13 +12,13 @@ ghost use Rattle.gu_fees.specs.Pairs.{dealings_of};
 ghost use Rattle.gu_fees.specs.Blocks.{is_under_terms, block_with, block_of, deeds_in, AreBlocks};
 ghost use Rattle.gu_fees.specs.Blocks.{goes_on};
 
-use gu_base::{Deed, Number};
+use gu_base::{Deed, Memory, Number};
 use gu_sums::{Filed, Filing};
 use std::alloc::Global;
 
-/// How many deeds, with the marks of those that were taken out, make a block. The last block may
-/// have fewer.
-const SIZE: usize = 256;
+/// How many deeds, with the marks of those that were taken out, make a block. Behind the last block
+/// stand fewer, which have none.
+const SIZE: usize = 128;
 
 /// What the Raises and the Claims of some deeds come to.
 #[derive(Clone, Copy)]
@@ -70,12 +70,54 @@ fn block_of(deeds: &[Filed<Deed>]) -> Block
     block
 }
 
-/// The deeds of the first block, and those behind.
+/// The deeds of the first block, or of none, and those behind.
 fn first_block(deeds: &[Filed<Deed>]) -> (&[Filed<Deed>], &[Filed<Deed>])
-    ensures first { result.0.now ≡ take 256 deeds.now }
-    ensures behind { result.1.now ≡ drop 256 deeds.now }
+    ensures first { result.0.now ≡ take 128 deeds.now }
+    ensures behind { result.1.now ≡ drop 128 deeds.now }
 {
     deeds.split_at(SIZE.min(deeds.len()))
+}
+
+/// The deeds of the block of this place.
+fn block_at(deeds: &[Filed<Deed>], i: usize) -> &[Filed<Deed>]
+    requires { i * 128 + 128 ≤ length deeds.now }
+    ensures { result.now ≡ take 128 (drop (i * 128) deeds.now) }
+{
+    let (_, rest) = deeds.split_at(i * SIZE);
+    let (these, _) = rest.split_at(SIZE);
+    these
+}
+
+/// The deeds behind so many blocks.
+fn behind_blocks(deeds: &[Filed<Deed>], count: usize) -> &[Filed<Deed>]
+    requires { count * 128 ≤ length deeds.now }
+    ensures { result.now ≡ drop (count * 128) deeds.now }
+{
+    let (_, rest) = deeds.split_at(count * SIZE);
+    rest
+}
+
+/// Makes room for one more block. There mostly is some, so that growth stands apart from the code
+/// that runs each time.
+pub(crate) fn ready(blocks: &mut Vec<Block, Global>) -> Result<(), Memory>
+    ensures items { blocks.new.items ≡ blocks.old.items }
+    ensures room { OnOk result (vec_len blocks.new < vec_capacity blocks.new) }
+{
+    if blocks.len() >= blocks.capacity() {
+        grow(blocks)?;
+    }
+    Ok(())
+}
+
+/// Makes room for one more block where there is none.
+#[cold]
+#[inline(never)]
+fn grow(blocks: &mut Vec<Block, Global>) -> Result<(), Memory>
+    ensures items { blocks.new.items ≡ blocks.old.items }
+    ensures room { OnOk result (vec_len blocks.new < vec_capacity blocks.new) }
+{
+    blocks.reserve(1)?;
+    Ok(())
 }
 
 /// Whether there is room for one more deed, and for one more block.
@@ -86,29 +128,40 @@ pub(crate) fn has_room(deeds: &Filing<Deed, Global>, blocks: &Vec<Block, Global>
     deeds.has_room() && blocks.len() < blocks.capacity()
 }
 
-/// Takes a deed into the blocks that is filed behind these, whatever its number.
-pub(crate) fn put(blocks: &mut Vec<Block, Global>, deeds: &[Filed<Deed>], deed: Deed)
+/// Makes a block of the last deeds where they have become as many as make one, since one more is
+/// filed.
+pub(crate) fn put(blocks: &mut Vec<Block, Global>, deeds: &[Filed<Deed>])
     requires room { vec_len blocks.old < vec_capacity blocks.old }
-    requires blocks { AreBlocks blocks.old.items deeds.now }
-    requires raised { raised_under (deeds_in deeds.now) + raised_by_deed deed < 2 ^ 64 }
-    requires used { used_under (deeds_in deeds.now) + used_by_deed deed < 2 ^ 64 }
-    ensures { (n : ℕ) → AreBlocks blocks.new.items (deeds.now ++ record {
-      number = n;
-      kept = Some deed;
-    } ∷ []) }
+    requires blocks { vec_len blocks.old * 128 ≤ length deeds.now }
+    requires raised { raised_under (deeds_in deeds.now) < 2 ^ 64 }
+    requires used { used_under (deeds_in deeds.now) < 2 ^ 64 }
+    ensures { (before : List (FiledData DeedData)) (f : FiledData DeedData)
+        → AreBlocks blocks.old.items before → deeds.now ≡ before ++ f ∷ []
+        → AreBlocks blocks.new.items deeds.now }
 {
-    if deeds.len() % SIZE == 0 {
-        blocks.push_reserved(block_with(Block::EMPTY, deed));
-    } else {
-        let last = blocks.len() - 1;
-        blocks[last] = block_with(blocks[last], deed);
+    if deeds.len() - blocks.len() * SIZE >= SIZE {
+        close(blocks, deeds);
     }
 }
 
-/// Makes the block new in which the deed of this place was taken out.
+/// Makes a block of the deeds behind those of the blocks.
+#[cold]
+#[inline(never)]
+fn close(blocks: &mut Vec<Block, Global>, deeds: &[Filed<Deed>])
+    requires room { vec_len blocks.old < vec_capacity blocks.old }
+    requires blocks { vec_len blocks.old * 128 ≤ length deeds.now }
+    requires raised { raised_under (deeds_in deeds.now) < 2 ^ 64 }
+    requires used { used_under (deeds_in deeds.now) < 2 ^ 64 }
+    ensures { blocks.new.items ≡ blocks.old.items
+        ++ block_of (deeds_in (drop (length blocks.old.items * 128) deeds.now)) ∷ [] }
+{
+    let rest = behind_blocks(deeds, blocks.len());
+    blocks.push_reserved(block_of(rest));
+}
+
+/// Makes the block new, if there is one, in which the deed of this place was taken out.
 fn renew(blocks: &mut Vec<Block, Global>, deeds: &[Filed<Deed>], place: usize)
-    requires place { place < length deeds.now }
-    requires blocks { length deeds.now ≤ 256 * vec_len blocks.old }
+    requires blocks { vec_len blocks.old * 128 ≤ length deeds.now }
     requires raised { raised_under (deeds_in deeds.now) < 2 ^ 64 }
     requires used { used_under (deeds_in deeds.now) < 2 ^ 64 }
     ensures { (before : List (FiledData DeedData)) (f : FiledData DeedData)
@@ -116,21 +169,21 @@ fn renew(blocks: &mut Vec<Block, Global>, deeds: &[Filed<Deed>], place: usize)
         → AreBlocks blocks.new.items deeds.now }
 {
     let i = place / SIZE;
-    let (_, rest) = deeds.split_at(i * SIZE);
-    let (these, _) = first_block(rest);
-    blocks[i] = block_of(these);
+    if i < blocks.len() {
+        blocks[i] = block_of(block_at(deeds, i));
+    }
 }
 
 /// Makes all blocks new.
 fn rebuild(blocks: &mut Vec<Block, Global>, deeds: &[Filed<Deed>])
-    requires room { length deeds.now ≤ 256 * vec_len blocks.old }
+    requires room { length deeds.now < 128 * vec_len blocks.old + 128 }
     requires raised { raised_under (deeds_in deeds.now) < 2 ^ 64 }
     requires used { used_under (deeds_in deeds.now) < 2 ^ 64 }
     ensures { AreBlocks blocks.new.items deeds.now }
 {
     blocks.clear();
     let mut rest = deeds;
-    while !rest.is_empty() {
+    while rest.len() >= SIZE {
         let (these, behind) = first_block(rest);
         blocks.push_reserved(block_of(these));
         rest = behind;
@@ -193,7 +246,7 @@ fn walk(room: u64, deeds: &[Filed<Deed>]) -> Result<u64, Number>
 }
 
 /// The same, with the blocks of these deeds. It walks into the first in which a Claim passes the
-/// limit, and into no other.
+/// limit, and into no other, and over the deeds behind the last.
 fn walk_blocks(room: u64, blocks: &[Block], deeds: &[Filed<Deed>]) -> Result<u64, Number>
     requires blocks { AreBlocks blocks.now deeds.now }
     requires room { room + raised_under (deeds_in deeds.now) < 2 ^ 64 }
@@ -202,20 +255,19 @@ fn walk_blocks(room: u64, blocks: &[Block], deeds: &[Filed<Deed>]) -> Result<u64
     ensures fits { IfOk result (λ r. r ≤ room + raised_under (deeds_in deeds.now)) }
 {
     let mut room = room;
-    let mut rest = deeds;
+    let mut i = 0;
     for block in blocks {
-        let (these, behind) = first_block(rest);
         if block.need <= room {
             room = room - block.need + block.left;
         } else {
-            match walk(room, these) {
+            match walk(room, block_at(deeds, i)) {
                 Ok(left) => room = left,
                 Err(number) => return Err(number),
             }
         }
-        rest = behind;
+        i += 1;
     }
-    Ok(room)
+    walk(room, behind_blocks(deeds, i))
 }
 
 /// The same, without the deed of this place.
@@ -234,7 +286,7 @@ pub(crate) fn walk_without(
 {
     let i = place / SIZE;
     let (blocks_before, blocks_rest) = blocks.split_at(i);
-    let (_, blocks_behind) = blocks_rest.split_at(1);
+    let (_, blocks_behind) = blocks_rest.split_at(blocks_rest.len().min(1));
     let (before, rest) = deeds.split_at(i * SIZE);
     let (these, behind) = first_block(rest);
     let (first, others) = these.split_at(place - i * SIZE);
@@ -246,20 +298,19 @@ pub(crate) fn walk_without(
 }
 
 /// The first Raise or Claim of these deeds, with their blocks. It looks into the first block that
-/// has one, and into no other.
+/// has one, or else at the deeds behind the last.
 pub(crate) fn first_under_terms(blocks: &[Block], deeds: &[Filed<Deed>]) -> Option<Number>
     requires { AreBlocks blocks.now deeds.now }
     ensures { result ≡ first_under_terms (deeds_in deeds.now) }
 {
-    let mut rest = deeds;
+    let mut i = 0;
     for block in blocks {
-        let (these, behind) = first_block(rest);
         if block.has_under_terms {
-            return first_among(these);
+            return first_among(block_at(deeds, i));
         }
-        rest = behind;
+        i += 1;
     }
-    None
+    first_among(behind_blocks(deeds, i))
 }
 
 /// The first Raise or Claim, by a look at each deed.

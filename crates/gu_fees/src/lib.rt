@@ -19,8 +19,9 @@
 //! - `entries_beside` is how many entries the pair of an entry has. It walks over none.
 //! - `first_standing` is the first entry of the pair that stands on another. Of a Raise it walks
 //!   over the blocks of the pair's entries once, and into two of them; of an Agree into one. A
-//!   block is 256 entries and 24 bytes: how far the limit must be above what is used before it, how
-//!   far it is behind it, and whether a Raise or a Claim is in it.
+//!   block is 128 entries and 24 bytes: how far the limit must be above what is used before it, how
+//!   far it is behind it, and whether a Raise or a Claim is in it. Fewer stand behind the last,
+//!   where each is looked at.
 //! - `ready` makes room for one more entry of a pair. It and `ready_at` alone take memory.
 //! - `place` is where a pair stands, found by hash; `row_at`, `ready_at` and `put_at` go on from
 //!   there without another look. `row_beside` is the row of an entry's pair.

@@ -82,8 +82,7 @@ impl PairTerms {
         ensures room { OnOk result (1 ≤ self.new.room) }
     {
         self.deeds.ready()?;
-        self.blocks.reserve(1)?;
-        Ok(())
+        blocks::ready(&mut self.blocks)
     }
 
     /// Whether `put` may be called.
@@ -113,8 +112,8 @@ impl PairTerms {
         self.made = made_with(self.made, deed);
         self.raised += raised_by(deed);
         self.used += used_by(deed);
-        blocks::put(&mut self.blocks, self.deeds.all(), deed);
         self.deeds.file(entry, deed);
+        blocks::put(&mut self.blocks, self.deeds.all());
     }
 
     /// Takes the entry of this number out, if it is there. Takes no memory.

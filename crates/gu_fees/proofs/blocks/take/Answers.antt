@@ -13,7 +13,7 @@ renew-requires-clause-blocks c =
     let marked = c.in_ok-deed.ensures.marked c.in_ok-place.place c.in_ok-place.ensures.found.there in
     let len = ap length marked
     ∙ length-set c.args.deeds.now.all c.in_ok-place.place (record { number = c.args.entry; kept = None }) in
-    rw c.all.ensures.all (omega (arith, hold, len))
+    rw c.all.ensures.all (omega (arith, hold.0, len))
 
 pub renew-requires-clause-raised : goal.renew-requires-clause-raised
 renew-requires-clause-raised c =

@@ -1,9 +1,11 @@
 use Rattle.gu_fees.proofs.blocks.walk_without.Goals as goal
 use Rattle.gu_base.specs.{Dealt.first_over, declared.house.Dealing.Dealing, Terms.raised_under}
-use Rattle.gu_fees.proofs.Walks.{block_behind, blocks_before, blocks_behind, blocks_hold, deeds_round, raised_round}
+use Rattle.gu_fees.proofs.Walks.{block_behind, blocks_before, blocks_behind, blocks_hold, deeds_round, drop_min}
+use Rattle.gu_fees.proofs.Walks.{raised_round}
 use Rattle.gu_fees.{proofs.blocks.walk_without.Goals.After-split_at-5, specs.Blocks.{deeds_in, goes_on}}
 use Rattle.std.proofs.Common.{ap, arith, drop, Err, length, length-take, List, Ok, Result, Some, sym, take, ℕ}
 use Rattle.std.proofs.Common.{◌*◌, ◌++◌, ◌+◌, ◌-◌, ◌/◌, ◌∙◌, ◌≡◌, ◌≤◌}
+use Rattle.std.proofs.Math.Nat.{min_comm}
 use Rattle.std.specs.Prelude.{IsErr, IsErrAnd}
 
 -- what a `?` hands on is the error itself
@@ -17,7 +19,7 @@ round : (c : After-split_at-5) (later : List Dealing)
     ≡ deeds_in c.split_at-3.result.0.now ++ (deeds_in c.split_at-4.result.0.now
     ++ (deeds_in c.split_at-5.result.1.now ++ (deeds_in c.first_block.result.1.now ++ later)))
 round c later =
-    let s = c.args.place / 256 * 256 in
+    let s = c.args.place / 128 * 128 in
     deeds_round c.args.deeds.now c.args.place s (c.args.place - s)
     c.split_at-3.ensures.front c.split_at-3.ensures.back c.first_block.ensures.first c.first_block.ensures.behind
     c.split_at-4.ensures.front c.split_at-4.ensures.back c.split_at-5.ensures.back
@@ -29,7 +31,7 @@ raised : (c : After-split_at-5)
     + raised_under (deeds_in c.split_at-5.result.1.now) + raised_under (deeds_in c.first_block.result.1.now)
     ≤ raised_under (deeds_in c.args.deeds.now)
 raised c =
-    let s = c.args.place / 256 * 256 in
+    let s = c.args.place / 128 * 128 in
     raised_round c.args.deeds.now s (c.args.place - s)
     c.split_at-3.ensures.front c.split_at-3.ensures.back c.first_block.ensures.first c.first_block.ensures.behind
     c.split_at-4.ensures.front c.split_at-4.ensures.back c.split_at-5.ensures.back
@@ -37,12 +39,7 @@ raised c =
 pub split_at-requires : goal.split_at-requires
 split_at-requires c =
     let hold = blocks_hold c.args.blocks.now c.args.deeds.now c.requires.blocks in
-    omega (arith, hold, c.requires.place)
-
-pub split_at-requires-2 : goal.split_at-requires-2
-split_at-requires-2 c =
-    let hold = blocks_hold c.args.blocks.now c.args.deeds.now c.requires.blocks in
-    omega (arith, hold, c.requires.place, c.split_at.ensures.back_len)
+    omega (arith, hold.1, c.requires.place)
 
 pub split_at-requires-4 : goal.split_at-requires-4
 split_at-requires-4 c =
@@ -52,7 +49,7 @@ split_at-requires-4 c =
       c.requires.place,
       c.split_at-3.ensures.back_len,
       ap length c.first_block.ensures.first,
-      length-take 256 rest,
+      length-take 128 rest,
     )
 
 pub split_at-requires-5 : goal.split_at-requires-5
@@ -64,18 +61,23 @@ split_at-requires-5 c =
       c.split_at-3.ensures.back_len,
       c.split_at-4.ensures.back_len,
       ap length c.first_block.ensures.first,
-      length-take 256 rest,
+      length-take 128 rest,
     )
 
 pub walk_blocks-requires-clause-blocks : goal.walk_blocks-requires-clause-blocks
 walk_blocks-requires-clause-blocks c =
+    let hold = blocks_hold c.args.blocks.now c.args.deeds.now c.requires.blocks in
     rw (c.split_at.ensures.front, c.split_at-3.ensures.front)
-    (blocks_before c.args.blocks.now c.args.deeds.now (c.args.place / 256) c.requires.blocks)
+    (blocks_before c.args.blocks.now c.args.deeds.now (c.args.place / 128) c.requires.blocks
+    (omega (arith, hold.1, c.requires.place)))
 
 pub walk_blocks-requires-2-clause-blocks : goal.walk_blocks-requires-2-clause-blocks
 walk_blocks-requires-2-clause-blocks c =
-    rw (c.split_at-2.ensures.back, c.split_at.ensures.back, c.first_block.ensures.behind, c.split_at-3.ensures.back)
-    (block_behind _ _ (blocks_behind c.args.blocks.now c.args.deeds.now (c.args.place / 256) c.requires.blocks))
+    let rest = c.split_at.result.1.now in
+    let behind : c.split_at-2.result.1.now ≡ drop 1 rest = c.split_at-2.ensures.back
+    ∙ (ap (λ n. drop n rest) (c.min.ensures ∙ min_comm (length rest) 1) ∙ drop_min 1 rest) in
+    rw (behind, c.split_at.ensures.back, c.first_block.ensures.behind, c.split_at-3.ensures.back)
+    (block_behind _ _ (blocks_behind c.args.blocks.now c.args.deeds.now (c.args.place / 128) c.requires.blocks))
 
 pub walk_blocks-requires-clause-room : goal.walk_blocks-requires-clause-room
 walk_blocks-requires-clause-room c =
