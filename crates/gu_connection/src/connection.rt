@@ -103,11 +103,8 @@ fn step(
     let Some(moment) = moment else {
         return Err(Closed);
     };
-    match session.step_noted(event, moment) {
-        Ok((actions, what)) => {
-            *noted = what;
-            Ok(actions)
-        }
+    match session.step_noted(event, moment, noted) {
+        Ok(actions) => Ok(actions),
         Err(_) => Err(Closed),
     }
 }

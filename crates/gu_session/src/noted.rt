@@ -1,7 +1,7 @@
 //! What an operator is told of a step and of a session: what goes wrong between a firm and the
 //! house.
 
-ghost use Rattle.std.specs.Prelude.{◌≡◌, ◌&&◌, length, filter, nat_le, nat_lt};
+ghost use Rattle.std.specs.Prelude.{◌≡◌, ◌&&◌, Ok, length, filter, nat_le, nat_lt};
 ghost use Rattle.gu_session.specs.Noting.{rejected as rejected_of, is_dropped as is_dropped_of};
 ghost use Rattle.gu_session.specs.Noting.{noted_by as noted_by_of, resent_for as resent_of};
 ghost use Rattle.gu_session.specs.Noting.{is_above_gap as is_above_gap_of};
@@ -43,11 +43,11 @@ impl Noted {
 }
 
 /// The Reject that is said, if one is.
-fn rejected(say: Option<Say>) -> Option<Reject>
-    ensures { result ≡ rejected_of say }
+fn rejected(say: &Option<Say>) -> Option<Reject>
+    ensures { result ≡ rejected_of say.now }
 {
     match say {
-        Some(Say::Reject(fault)) => Some(fault),
+        Some(Say::Reject(fault)) => Some(*fault),
         _ => None,
     }
 }
@@ -62,7 +62,26 @@ fn is_above_gap(line: TableLine) -> bool
     }
 }
 
-/// Whether a message is dropped for the gap before it.
+/// Whether a message with this header, whose number is above the expected one, is dropped for the
+/// gap before it.
+#[cold]
+#[inline(never)]
+fn is_above(
+    link: &LinkState,
+    heading: Heading,
+    meaning: &Result<Inbound, Reject>,
+    is_logout: bool,
+) -> bool
+    ensures { result ≡ is_dropped_of link.now link.now.firm (Ok heading) meaning.now is_logout }
+{
+    match link.firm {
+        None => false,
+        Some(firm) => is_above_gap(line_of(link, firm, Ok(heading), meaning, is_logout)),
+    }
+}
+
+/// Whether a message is dropped for the gap before it. Of most its number alone tells.
+#[tactic(auto, using(crate::proofs::Noting::few_are_kept, crate::proofs::Noting::refused_is_kept))]
 fn is_dropped(
     link: &LinkState,
     heading: &Result<Heading, Reject>,
@@ -71,9 +90,11 @@ fn is_dropped(
 ) -> bool
     ensures { result ≡ is_dropped_of link.now link.now.firm heading.now meaning.now is_logout }
 {
-    match link.firm {
-        None => false,
-        Some(firm) => is_above_gap(line_of(link, firm, *heading, meaning, is_logout)),
+    match heading {
+        Err(_) => false,
+        Ok(heading) => {
+            heading.number > link.expected && is_above(link, *heading, meaning, is_logout)
+        }
     }
 }
 
@@ -118,7 +139,7 @@ pub fn noted_by(
     ensures { result ≡ noted_by_of link.now kept.now heading.now meaning.now is_logout verdict.now }
 {
     Noted {
-        reject: rejected(verdict.say),
+        reject: rejected(&verdict.say),
         dropped: is_dropped(link, heading, meaning, is_logout),
         resent: resent_for(kept, verdict.resend),
     }

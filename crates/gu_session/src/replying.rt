@@ -1,6 +1,7 @@
 //! The messages of a Reply: the answer to the call that waits, and reports.
 
-ghost use Rattle.std.specs.Prelude.{◌≡◌, ◌≤◌, ◌+◌, ◌++◌, length, map, nat_le, ◌≤ℤ◌, pos, Some};
+ghost use Rattle.std.specs.Prelude.{◌≡◌, ◌≤◌, ◌+◌, ◌++◌, [], length, map, nat_le, ◌≤ℤ◌, pos};
+ghost use Rattle.std.specs.Prelude.{Some};
 ghost use Rattle.std.specs.Prelude.{OnOk, IfOk};
 ghost use Rattle.std.specs.List.{All};
 ghost use Rattle.gu_message.specs.AllocationReport.{ShowsFewParts};
@@ -16,6 +17,9 @@ use gu_base::{Answer, FirmId, Memory, Report};
 use gu_message::SendingTime;
 use jiff::Timestamp;
 use std::alloc::Global;
+
+/// How many bytes a frame has beside its body, where the names in it are short.
+const FRAME_ROOM: usize = 128;
 
 /// The last MsgSeqNum (34) that a message may have.
 pub const LAST_NUMBER: u32 = 999_999_999;
@@ -65,6 +69,17 @@ fn tell_reports(
     Ok(())
 }
 
+/// No messages, with room for the first ones where reports are to come.
+fn room_for(alloc: Global, reports: &[Report]) -> Result<KeptMessages, Memory>
+    ensures { IfOk result (λ fresh. fresh ≡ []) }
+{
+    if reports.is_empty() {
+        Ok(KeptMessages::new(alloc))
+    } else {
+        KeptMessages::with_room(alloc)
+    }
+}
+
 /// The messages of a Reply, numbered from this one on.
 fn messages(
     alloc: Global,
@@ -83,7 +98,7 @@ fn messages(
     ensures { IfOk result
         (λ fresh. fresh ≡ kept_from time next (reply_bodies time waiting answer.now reports.now)) }
 {
-    let mut fresh = KeptMessages::new(alloc);
+    let mut fresh = room_for(alloc, reports)?;
     let mut number = next;
     if let Some(waiting) = waiting {
         if let Some(answer) = answer {
@@ -93,6 +108,13 @@ fn messages(
     }
     tell_reports(&mut fresh, reports, number, moment, time)?;
     Ok(fresh)
+}
+
+/// How many bytes the frames of messages have, as most are: so none is moved for the next.
+fn room_of(fresh: &KeptMessages) -> usize {
+    fresh
+        .size()
+        .saturating_add(fresh.len().saturating_mul(FRAME_ROOM))
 }
 
 /// The messages of a Reply at this moment, and their frames.
@@ -127,6 +149,7 @@ pub fn replied(
         time,
     )?;
     let mut send = Vec::new(alloc);
+    send.reserve(room_of(&fresh))?;
     write_new(&mut send, &Writer { house, firm, time }, &fresh)?;
     Ok((fresh, send))
 }

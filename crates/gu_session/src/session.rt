@@ -1,7 +1,7 @@
 //! The session of one connection: what comes is decided by the table, sent and kept.
 
 ghost use Rattle.std.specs.Prelude.{◌≡◌, ◌≤◌, ◌≤ℤ◌, ◌+◌, ◌++◌, pos, true, false, IsTrue, OnOk};
-ghost use Rattle.std.specs.Prelude.{OnErr, IfOk, IsErr, Ok, None, Some, is_some, option_map};
+ghost use Rattle.std.specs.Prelude.{OnErr, IfOk, Ok, None, Some, is_some, option_map};
 ghost use Rattle.std.specs.Prelude.{length};
 ghost use Rattle.std.specs.List.{All};
 ghost use Rattle.gu_codec.specs.Answer.{pairs};
@@ -11,12 +11,12 @@ ghost use Rattle.gu_message.specs.Meaning.{meaning_of};
 ghost use Rattle.gu_message.specs.declared.inbound.Inbound.TheVariants.{Heartbeat};
 ghost use Rattle.gu_session.specs.Keeping.{bytes_of};
 ghost use Rattle.gu_session.specs.Limits.{past_last};
-ghost use Rattle.gu_session.specs.Noting.{gap_of, noted_of, noted_on, noted_where_it_fits, nothing};
+ghost use Rattle.gu_session.specs.Noting.{gap_of, noted_of, noted_on, noted_where_it_fits};
 ghost use Rattle.gu_session.specs.Steps as StepEvent;
 ghost use Rattle.gu_session.specs.Steps.{fits as fits_of, call_of as call_of_table, opening, tells};
 ghost use Rattle.gu_session.specs.Steps.{replies, where_it_fits, on_event, acts, resends, sayings};
 ghost use Rattle.gu_session.specs.Steps.{time_of};
-ghost use Rattle.gu_session.specs.Table.{shut as shut_of, on_message as on_message_of};
+ghost use Rattle.gu_session.specs.Table.{shut as shut_of};
 ghost use Rattle.gu_session.specs.Text.{ShowFewParts, Steps, Gives, IsEmpty, wire, fields_of};
 ghost use Rattle.gu_session.specs.Text.{seen_event};
 
@@ -113,18 +113,6 @@ fn no_message() -> Result<Inbound, Reject>
     Ok(Inbound::Heartbeat)
 }
 
-/// A step of which nothing is told.
-fn unnoted(step: Result<Actions, Memory>) -> Result<(Actions, Noted), Memory>
-    ensures ok { IfOk result (λ r. step ≡ Ok r.0) }
-    ensures noted { IfOk result (λ r. r.1 ≡ nothing) }
-    ensures err { OnErr result (IsErr step) }
-{
-    match step {
-        Ok(actions) => Ok((actions, Noted::NONE)),
-        Err(e) => Err(e),
-    }
-}
-
 /// Whether a verdict sends nothing.
 fn is_silent(verdict: &Verdict) -> bool
     ensures resend { IsTrue result → verdict.now.resend ≡ None }
@@ -210,33 +198,33 @@ impl<'a> Session<'a> {
         ensures ok { IfOk result (λ a. Steps moment event.entry self.old self.new a) }
         ensures err { OnErr result (self.new ≡ self.old) }
     {
-        let (actions, _) = self.step_noted(event, moment)?;
-        Ok(actions)
+        let mut noted = Noted::NONE;
+        self.step_noted(event, moment, &mut noted)
     }
 
-    /// `step`, and what an operator is told of it.
+    /// `step`, and what an operator is told of it, which is put into `noted`.
     pub fn step_noted(
         &mut self,
         event: Event<'_>,
         moment: Timestamp,
-    ) -> Result<(Actions, Noted), Memory>
+        noted: &mut Noted,
+    ) -> Result<Actions, Memory>
         requires moment { pos 0 ≤ℤ moment.nanosecond }
         requires few { ShowFewParts event }
-        ensures ok { IfOk result (λ r. Steps moment event.entry self.old self.new r.0) }
-        ensures noted { IfOk result
-            (λ r. r.1 ≡ noted_of moment self.old (seen_event event.entry)) }
+        ensures ok { IfOk result (λ a. Steps moment event.entry self.old self.new a) }
+        ensures noted { OnOk result
+            (noted.new ≡ noted_of moment self.old (seen_event event.entry)) }
         ensures err { OnErr result (self.new ≡ self.old) }
     {
+        *noted = Noted::NONE;
         if self.link.closed {
-            return Ok((self.nothing(false), Noted::NONE));
+            return Ok(self.nothing(false));
         }
         match event {
-            Event::Message(fields) => self.message(fields, moment),
-            Event::Tick => unnoted(self.tick(moment)),
-            Event::Reply(answer, reports) => {
-                unnoted(self.reply(&answer, reports.as_slice(), moment))
-            }
-            Event::End => Ok((self.shut_down(), Noted::NONE)),
+            Event::Message(fields) => self.message(fields, moment, noted),
+            Event::Tick => self.tick(moment),
+            Event::Reply(answer, reports) => self.reply(&answer, reports.as_slice(), moment),
+            Event::End => Ok(self.shut_down()),
         }
     }
 
@@ -306,41 +294,28 @@ impl<'a> Session<'a> {
         }
     }
 
-    /// What the table decides of a message, and what an operator is told of its step.
-    fn decide(
-        &self,
-        heading: &Result<Heading, Reject>,
-        meaning: &Result<Inbound, Reject>,
-        is_logout: bool,
+    /// Takes a message, and puts what an operator is told of its step into `noted`.
+    fn message(
+        &mut self,
+        fields: Fields<'_>,
         moment: Timestamp,
-    ) -> (Verdict, Noted)
-        ensures verdict { result.0
-            ≡ on_message_of moment self.now.house self.now.link heading.now meaning.now is_logout }
-        ensures noted { result.1
-            ≡ noted_where_it_fits self.now heading.now meaning.now is_logout result.0 }
-    {
-        let verdict = on_message(moment, self.house, self.link, *heading, meaning, is_logout);
-        let noted = self.note(heading, meaning, is_logout, &verdict);
-        (verdict, noted)
-    }
-
-    /// Takes a message.
-    fn message(&mut self, fields: Fields<'_>, moment: Timestamp) -> Result<(Actions, Noted), Memory>
+        noted: &mut Noted,
+    ) -> Result<Actions, Memory>
         requires { pos 0 ≤ℤ moment.nanosecond }
-        ensures ok { IfOk result (λ r.
+        ensures ok { IfOk result (λ a.
             Gives (where_it_fits moment self.old
             (on_event moment self.old (StepEvent.Came (pairs fields.entry))))
-            self.new r.0) }
-        ensures noted { IfOk result
-            (λ r. r.1 ≡ noted_on moment self.old (StepEvent.Came (pairs fields.entry))) }
+            self.new a) }
+        ensures noted { OnOk result
+            (noted.new ≡ noted_on moment self.old (StepEvent.Came (pairs fields.entry))) }
         ensures err { OnErr result (self.new ≡ self.old) }
     {
         let house = self.house.house();
         let (heading, meaning) = understood(self.alloc, fields, &house)?;
         let is_logout = is_logout(fields);
-        let (verdict, noted) = self.decide(&heading, &meaning, is_logout, moment);
-        let actions = self.act(Some(fields), meaning, verdict, moment)?;
-        Ok((actions, noted))
+        let verdict = on_message(moment, self.house, self.link, heading, &meaning, is_logout);
+        *noted = self.note(&heading, &meaning, is_logout, &verdict);
+        self.act(Some(fields), meaning, verdict, moment)
     }
 
     /// Time has passed.
