@@ -75,14 +75,20 @@ fn has_waited<R: Clock>(rt: &R, begun: Option<Instant>) -> bool {
     }
 }
 
-/// The moment for an event that is no message. A reply comes shortly behind a step of its turn.
+/// The moment for an event that is no message, of a turn the first one or a later one. A reply comes
+/// shortly behind a step of its turn. A Tick may have the moment of the reply before it.
 #[inline(always)]
-fn moment_for<R: Clock>(rt: &R, clock: &mut SteadyClock, event: &Event<'_>) -> Option<Timestamp>
+fn moment_for<R: Clock>(
+    rt: &R,
+    clock: &mut SteadyClock,
+    event: &Event<'_>,
+    is_first: bool,
+) -> Option<Timestamp>
     ensures { IfSome result (λ t. pos 0 ≤ℤ t.nanosecond) }
 {
     match event {
         Event::Reply(..) => clock.later(rt),
-        _ => clock.now(rt),
+        _ => clock.for_message(rt, is_first),
     }
 }
 
@@ -362,9 +368,14 @@ impl<'a> Connection<'a> {
         Ok(())
     }
 
-    /// Takes an event that leads to no call.
+    /// Takes an event that leads to no call, of a turn the first one or a later one.
     #[inline(always)]
-    pub(crate) fn quiet<R: Clock>(&mut self, rt: &R, event: Event<'_>) -> Result<(), Closed>
+    pub(crate) fn quiet<R: Clock>(
+        &mut self,
+        rt: &R,
+        event: Event<'_>,
+        is_first: bool,
+    ) -> Result<(), Closed>
         requires { ShowFewParts event }
         ensures ok { OnOk result
             (Speaks event.entry self.old.session self.new.session self.old.out.items
@@ -378,7 +389,7 @@ impl<'a> Connection<'a> {
         ensures behind { self.new.behind ≡ self.old.behind }
         ensures tells { self.new.tells ≡ self.old.tells }
     {
-        let moment = moment_for(rt, &mut self.clock, &event);
+        let moment = moment_for(rt, &mut self.clock, &event, is_first);
         match step(&mut self.session, &mut self.noted, event, moment) {
             Ok(actions) => self.send(&actions),
             Err(e) => Err(e),
@@ -390,7 +401,7 @@ impl<'a> Connection<'a> {
         ensures err { IsErr result }
         ensures out { self.new.out.items ≡ self.old.out.items }
     {
-        let _ = self.quiet(rt, Event::End);
+        let _ = self.quiet(rt, Event::End, true);
         Err(Closed)
     }
 
@@ -439,7 +450,6 @@ impl<'a> Connection<'a> {
         ensures out { self.new.out.items ≡ self.old.out.items }
     {
         let was_on = self.session.firm().is_some();
-        let moment = self.clock.for_message(rt, is_first);
         match self.feed.next() {
             None => Ok(Brought::Nothing),
             Some(Frame::Partial) => Ok(Brought::Nothing),
@@ -449,6 +459,7 @@ impl<'a> Connection<'a> {
             }
             Some(Frame::Whole { fields, len }) => {
                 self.look.pass(len);
+                let moment = self.clock.for_message(rt, is_first);
                 let taken = Event::Message(fields);
                 match step(&mut self.session, &mut self.noted, taken, moment) {
                     Ok(actions) => {
@@ -459,6 +470,7 @@ impl<'a> Connection<'a> {
                 }
             }
             Some(Frame::Broken { .. }) => {
+                let moment = self.clock.for_message(rt, is_first);
                 end_session(&mut self.session, moment);
                 Err(Closed)
             }
@@ -520,7 +532,7 @@ impl<'a> Connection<'a> {
         } else {
             entries
         };
-        match self.quiet(rt, Event::Reply(answer, reports)) {
+        match self.quiet(rt, Event::Reply(answer, reports), false) {
             Ok(()) => {
                 self.told = told;
                 self.looked = looked;

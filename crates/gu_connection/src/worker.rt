@@ -489,16 +489,17 @@ impl<'a, J: Job, R: Wait + Clock, G: Gate> Worker<'a, J, R, G> {
         Ok(())
     }
 
-    /// A Tick. It rests on the session alone: whatever a seat has seen, it is the same. Where the
-    /// wall clock has left the session's by too much, a Logout says so.
-    pub fn beat(&self, connection: &mut Connection<'_>) -> Result<(), Closed>
+    /// A Tick, of a turn the first event or a later one. It rests on the session alone: whatever a
+    /// seat has seen, it is the same. Where the wall clock has left the session's by too much, a
+    /// Logout says so.
+    pub fn beat(&self, connection: &mut Connection<'_>, is_first: bool) -> Result<(), Closed>
         ensures ticks { OnOk result ((seat : SeatView)
             → Ticks (stands seat connection.old) (stands seat connection.new)) }
         ensures breaks { OnErr result ((seat : SeatView)
             → Breaks self.now.house.now.house J.opening
             (stands seat connection.old) (stands seat connection.new)) }
     {
-        match connection.quiet(self.rt, Event::Tick) {
+        match connection.quiet(self.rt, Event::Tick, is_first) {
             Ok(()) => match self.keep_time(connection) {
                 Ok(()) => Ok(()),
                 Err(e) => Err(e),
@@ -507,13 +508,14 @@ impl<'a, J: Job, R: Wait + Clock, G: Gate> Worker<'a, J, R, G> {
         }
     }
 
-    /// The end of a turn that has taken all messages: a Tick. It leaves this.
+    /// The end of a turn that has taken all messages, if there were any: a Tick. It leaves this.
     #[tactic(auto, using(crate::proofs::Seen::itself, crate::proofs::Seen::still))]
     fn tick(
         &self,
         seat: Seat<J>,
         connection: &mut Connection<'_>,
         left: Left,
+        is_first: bool,
     ) -> (Seat<J>, Result<Left, Closed>)
         ensures ticks { IfOk result.1 (λ l. (l ≡ left)
             × Ticks (stands seat connection.old) (stands result.0 connection.new)) }
@@ -521,7 +523,7 @@ impl<'a, J: Job, R: Wait + Clock, G: Gate> Worker<'a, J, R, G> {
             (stands seat connection.old) (stands result.0 connection.new)) }
         ensures same { result.0 ≡ seat }
     {
-        match self.beat(connection) {
+        match self.beat(connection, is_first) {
             Ok(()) => (seat, Ok(left)),
             Err(e) => (seat, Err(e)),
         }
@@ -563,7 +565,7 @@ impl<'a, J: Job, R: Wait + Clock, G: Gate> Worker<'a, J, R, G> {
                 return (seat, Err(Closed));
             };
             if !some {
-                return self.tick(seat, connection, left);
+                return self.tick(seat, connection, left, count == 0);
             }
         }
         (seat, Ok(Left::Late))
@@ -584,7 +586,7 @@ impl<'a, J: Job, R: Wait + Clock, G: Gate> Worker<'a, J, R, G> {
             (stands seat connection.old) (stands result.0 connection.new)) }
         ensures later { BeginsWith result.0.seen seat.seen }
     {
-        let (seat, ticked) = self.tick(seat, connection, left);
+        let (seat, ticked) = self.tick(seat, connection, left, true);
         let Ok(left) = ticked else {
             return (seat, Err(Closed));
         };

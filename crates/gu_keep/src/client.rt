@@ -435,7 +435,7 @@ impl<'a, J: Job> Client<'a, J> {
             self.new.connection }
         ensures same { self.new.outbox ≡ self.old.outbox }
     {
-        match worker.beat(&mut self.connection) {
+        match worker.beat(&mut self.connection, true) {
             Ok(()) => {}
             Err(_) => self.ended = true,
         }
