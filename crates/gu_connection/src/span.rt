@@ -3,7 +3,7 @@
 ghost use Rattle.std.specs.Prelude.{IsTrue, is_some};
 
 use gu_limits::is_spent;
-use std::time::{Clock, Instant};
+use std::time::Instant;
 
 /// How long a turn takes messages: for so many microseconds from its start on.
 #[derive(Clone, Copy)]
@@ -14,7 +14,7 @@ pub struct Span {
 
 impl Span {
     /// How many microseconds of it are over then. All, where that isn't known.
-    fn used_at(&self, at: Option<Instant>) -> u64 {
+    pub fn used_at(&self, at: Option<Instant>) -> u64 {
         match at {
             Some(at) => {
                 let passed = at.duration_since(self.start);
@@ -22,11 +22,6 @@ impl Span {
             }
             None => u64::MAX,
         }
-    }
-
-    /// How many microseconds of it are over. All, where the clock can't be read.
-    pub fn used<R: Clock>(&self, rt: &R) -> u64 {
-        self.used_at(Instant::now(rt).ok())
     }
 }
 

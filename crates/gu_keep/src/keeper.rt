@@ -72,6 +72,8 @@ struct Round<J: Job> {
     rang: u64,
     /// When the worker saw first that the server is to stop.
     stops: Option<u64>,
+    /// When the clock was read last: the next turn begins then.
+    now: Instant,
     /// What the newest bytes that were made rest on, and how many entries the journal was asked to
     /// record last.
     newest: Ticket<J>,
@@ -236,7 +238,9 @@ impl<'a, K: OpenJournal, J: Job, R: Wait + Clock, G: Gate> Keeper<'a, K, J, R, G
     }
 
     /// Opens the connection of the stranger at a place. One for which memory lacks is closed.
-    fn know(&self, seat: &mut Seat<J>, clients: &mut Clients<'a, J>, second: u64, at: usize) {
+    #[cold]
+    #[inline(never)]
+    fn open(&self, seat: &mut Seat<J>, clients: &mut Clients<'a, J>, second: u64, at: usize) {
         let Some(stranger) = clients.take_stranger(at) else {
             return;
         };
@@ -249,6 +253,13 @@ impl<'a, K: OpenJournal, J: Job, R: Wait + Clock, G: Gate> Keeper<'a, K, J, R, G
                 clients.free_stranger(at);
                 self.bell.open.fetch_sub(1, Ordering::SeqCst);
             }
+        }
+    }
+
+    /// Opens the connection at a place, if it is a stranger's. To take one moves much.
+    fn know(&self, seat: &mut Seat<J>, clients: &mut Clients<'a, J>, second: u64, at: usize) {
+        if clients.stranger_at(at).is_some() {
+            self.open(seat, clients, second, at);
         }
     }
 
@@ -333,34 +344,33 @@ impl<'a, K: OpenJournal, J: Job, R: Wait + Clock, G: Gate> Keeper<'a, K, J, R, G
         }
     }
 
-    /// A turn with the connection at a place, if its firm has time left in this round.
+    /// A turn with the connection at a place, if its firm has time left in this round. It begins
+    /// where the clock was read last, as the end of the turn before, and notes its own end.
     fn turn(
         &self,
         seat: Seat<J>,
         clients: &mut Clients<'a, J>,
-        piece: &mut Vec<u8>,
-        second: u64,
+        round: &mut Round<J>,
         at: usize,
     ) -> Seat<J> {
         let micros = clients.time_of(at);
-        let Ok(start) = Instant::now(self.worker.rt) else {
-            return seat;
-        };
         if micros == 0 {
             clients.pass_over(at);
             return seat;
         }
+        let start = round.now;
+        let second = round.second;
         let span = Span { start, micros };
         let mut over = false;
         let mut seat = seat;
         if let Some(Some(client)) = clients.places.get_mut(at) {
             let before = self.begin_turn(client);
-            seat = client.turn(&self.worker, seat, piece, second, span);
-            self.end_turn(client, before, piece, second);
+            seat = client.turn(&self.worker, seat, &mut round.piece, second, span);
+            self.end_turn(client, before, &round.piece, second);
             over = client.is_over();
-            clients
-                .shares
-                .note(client.share(), span.used(self.worker.rt));
+            let end = Instant::now(self.worker.rt).ok();
+            clients.shares.note(client.share(), span.used_at(end));
+            round.now = end.unwrap_or(start);
         }
         clients.end_turn(at);
         if over {
@@ -393,7 +403,7 @@ impl<'a, K: OpenJournal, J: Job, R: Wait + Clock, G: Gate> Keeper<'a, K, J, R, G
                 break;
             };
             self.know(&mut seat, clients, second, at);
-            seat = self.turn(seat, clients, &mut round.piece, second, at);
+            seat = self.turn(seat, clients, round, at);
         }
         seat
     }
@@ -510,7 +520,7 @@ impl<'a, K: OpenJournal, J: Job, R: Wait + Clock, G: Gate> Keeper<'a, K, J, R, G
             if quiet {
                 self.beat(clients, second, at);
                 if !self.bells.writes.load(Ordering::SeqCst) {
-                    seat = self.turn(seat, clients, &mut round.piece, second, at);
+                    seat = self.turn(seat, clients, round, at);
                 }
             }
         }
@@ -672,11 +682,13 @@ impl<'a, K: OpenJournal, J: Job, R: Wait + Clock, G: Gate> Keeper<'a, K, J, R, G
         {
             return Err(KeepError::Poll);
         }
-        let Ok(now) = start.elapsed(self.worker.rt) else {
+        let Ok(now) = Instant::now(self.worker.rt) else {
             return Err(KeepError::Clock);
         };
-        let millis = now.as_secs().saturating_mul(1000);
-        round.millis = millis.saturating_add(u64::from(now.subsec_millis()));
+        round.now = now;
+        let passed = now.duration_since(start);
+        let millis = passed.as_secs().saturating_mul(1000);
+        round.millis = millis.saturating_add(u64::from(passed.subsec_millis()));
         note(events, clients, round);
         clients.begin_round(round.millis);
         self.hear(clients);
@@ -749,6 +761,9 @@ impl<'a, K: OpenJournal, J: Job, R: Wait + Clock, G: Gate> Keeper<'a, K, J, R, G
         let Ok(mut events) = Events::with_capacity(alloc, MOST_EVENTS) else {
             return (Some(seat), Err(KeepError::Memory));
         };
+        let Some(now) = self.worker.tallies.start() else {
+            return (Some(seat), Err(KeepError::Clock));
+        };
         let mut round = Round {
             woken: false,
             piece,
@@ -757,6 +772,7 @@ impl<'a, K: OpenJournal, J: Job, R: Wait + Clock, G: Gate> Keeper<'a, K, J, R, G
             late_asked: 0,
             rang: 0,
             stops: None,
+            now,
             newest,
             asked_for: 0,
         };

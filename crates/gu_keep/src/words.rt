@@ -82,7 +82,7 @@ impl Words {
         ensures seen { recorder.new.seen ≡ recorder.old.seen }
         ensures kept { recorder.new.kept ≡ recorder.old.kept }
     {
-        if !self.are_due(rt)? {
+        if !self.are_needed || !self.are_due(rt)? {
             return Ok(());
         }
         let now = self.now(rt)?;

@@ -7,7 +7,6 @@ ghost use Rattle.gu_desk.specs.Runs.{HasSeen};
 ghost use Rattle.gu_trace.specs.News.{is_news, is_told};
 
 use crate::journals::OpenJournal;
-use crate::replica::micros_since;
 use gu_base::{Entry, Memory};
 use gu_board::Board;
 use gu_command::{KeepError, RecordError};
@@ -87,12 +86,19 @@ pub(crate) fn moment<R: Clock>(rt: &R) -> Option<SendingTime> {
     }
 }
 
-/// Counts a group whose record has begun then, in a journal of so many bytes now: how long the disk
-/// took for it, and for how many microseconds it has waited for other machines behind that.
+/// How many microseconds there are from one moment to a later one, if both are known.
+fn micros_between(start: Option<Instant>, end: Option<Instant>) -> Option<u64> {
+    let passed = end?.duration_since(start?);
+    Some(passed.as_micros().min(u128::from(u64::MAX)) as u64)
+}
+
+/// Counts a group that took so many microseconds, if that is known, in a journal of so many bytes
+/// now: how long the disk took for it, and for how many of them it has waited for other machines
+/// behind that.
 fn count_group<R: Wait + Clock>(
     rt: &R,
     board: Option<&Board>,
-    start: Option<Instant>,
+    took: Option<u64>,
     waited: Option<u64>,
     group: &[Entry],
     bytes: usize,
@@ -102,8 +108,8 @@ fn count_group<R: Wait + Clock>(
     };
     board.keeps(rt, group);
     board.has_written(bytes as u64);
-    if let Some(start) = start {
-        let disk = micros_since(rt, start).saturating_sub(waited.unwrap_or(0));
+    if let Some(took) = took {
+        let disk = took.saturating_sub(waited.unwrap_or(0));
         board.recorded(rt, group.len() as u64, disk, waited);
     }
 }
@@ -242,8 +248,9 @@ impl<K: OpenJournal, J: Job> Recorder<K, J> {
             Ok(()) => {
                 self.is_bare = true;
                 self.since = Instant::now(rt).ok();
+                let took = micros_between(start, self.since);
                 let (waited, bytes) = (self.journal.waited(), self.journal.bytes());
-                count_group(rt, board, start, waited, entries.as_slice(), bytes);
+                count_group(rt, board, took, waited, entries.as_slice(), bytes);
                 desk.confirm(&mut self.seat, &self.journal);
                 Ok(())
             }
