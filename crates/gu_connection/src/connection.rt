@@ -75,8 +75,8 @@ fn has_waited<R: Clock>(rt: &R, begun: Option<Instant>) -> bool {
     }
 }
 
-/// The moment for an event that is no message, of a turn the first one or a later one. A reply comes
-/// shortly behind a step of its turn. A Tick may have the moment of the reply before it.
+/// The moment for an event that is no message, of a turn the first one or a later one. A reply
+/// comes shortly behind a step of its turn. A Tick may have the moment of the reply before it.
 #[inline(always)]
 fn moment_for<R: Clock>(
     rt: &R,
