@@ -9,7 +9,7 @@ use crate::times::Taken;
 use gu_base::{AllocId, Answer, Entry, FirmId, Memory, Number};
 use gu_book::Book;
 use gu_command::MOST_WORKERS;
-use gu_limits::Size;
+use gu_limits::{Size, fills_group};
 use gu_log::{Event, Field, Key, Value};
 use gu_message::Reject;
 use gu_parties::House;
@@ -56,6 +56,9 @@ pub struct Board {
     /// The parts of the book, and the bytes of its journal.
     parts: AtomicU64,
     journal_bytes: AtomicU64,
+    /// At most how many bytes a group takes of the entries that aren't on the disk yet, and of the
+    /// calls that aren't answered yet.
+    unkept: AtomicU64,
     /// Whether memory lacks for the next entry.
     lacks: AtomicBool,
     open: AtomicU64,
@@ -152,6 +155,7 @@ impl Board {
             entries: AtomicU64::new(0),
             parts: AtomicU64::new(0),
             journal_bytes: AtomicU64::new(0),
+            unkept: AtomicU64::new(0),
             lacks: AtomicBool::new(false),
             open: AtomicU64::new(0),
             taken: AtomicU64::new(0),
@@ -327,6 +331,23 @@ impl Board {
         self.journal.store(0, Ordering::SeqCst);
     }
 
+    /// A call is to be made that may make an entry with so many parts.
+    pub(crate) fn begins_entry(&self, parts: u64) {
+        let call = Size { entries: 1, parts };
+        self.unkept.fetch_add(call.group_bytes(), Ordering::SeqCst);
+    }
+
+    /// So many entries with so many parts together are on the disk, or weren't made.
+    pub(crate) fn takes_back(&self, entries: u64, parts: u64) {
+        let size = Size { entries, parts };
+        self.unkept.fetch_sub(size.group_bytes(), Ordering::SeqCst);
+    }
+
+    /// Whether what isn't on the disk yet fills a group.
+    pub(crate) fn is_group_full(&self) -> bool {
+        fills_group(load(&self.unkept))
+    }
+
     /// A group with these entries is on the disk: nobody was told of them yet.
     pub fn keeps<R: Wait + Clock>(&self, rt: &R, group: &[Entry]) {
         let count = group.len() as u64;
@@ -338,6 +359,7 @@ impl Board {
             parts = parts.saturating_add(parts_in(&entry.command));
         }
         self.parts.fetch_add(parts, Ordering::SeqCst);
+        self.takes_back(count, parts);
         self.warn_of_book(rt, before, before.saturating_add(count));
     }
 

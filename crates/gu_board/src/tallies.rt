@@ -327,13 +327,30 @@ impl Tallies {
                 return Err(ending);
             }
         }
+        if let Some(board) = self.board() {
+            board.begins_entry(parts);
+        }
         Ok(())
     }
 
     /// Takes the count of a call with so many parts back, if it made no entry.
     pub fn end_call(&self, firm: &FirmId, parts: u64, is_entry: bool) {
-        if !is_entry && self.limits.counts_entries() {
+        if is_entry {
+            return;
+        }
+        if let Some(board) = self.board() {
+            board.takes_back(1, parts);
+        }
+        if self.limits.counts_entries() {
             self.take_back(firm, parts);
+        }
+    }
+
+    /// Whether what isn't on the disk yet fills a group of the journal, so that further calls wait.
+    pub fn is_group_full(&self) -> bool {
+        match self.board() {
+            Some(board) => board.is_group_full(),
+            None => false,
         }
     }
 
@@ -346,8 +363,11 @@ impl Tallies {
     }
 
     /// Counts that so many bytes wait for a firm on a connection, or are kept there, where so many
-    /// did before.
+    /// did before. For the house any may.
     pub fn hold(&self, firm: &FirmId, before: u64, after: u64) {
+        if before == after || *firm == self.house {
+            return;
+        }
         let Some(tally) = self.firms.get(firm) else {
             return;
         };

@@ -114,7 +114,8 @@ pub enum Left {
     Unread,
     /// Perhaps messages that have come whole: too much waits to be sent.
     Untaken,
-    /// Perhaps messages that have come whole: the firm has had its rate.
+    /// Perhaps messages that have come whole: the firm has had its rate, or what isn't on the disk
+    /// yet fills a group of the journal.
     Late,
     /// Perhaps messages that have come whole: the turn's span is over.
     Spent,
@@ -284,10 +285,14 @@ impl<'a, J: Job, R: Wait + Clock, G: Gate> Worker<'a, J, R, G> {
         }
     }
 
-    /// Whether what stands first on a connection waits: it is a call or a request for resends, and
-    /// its firm has had its rate.
+    /// Whether what stands first on a connection of a firm waits: what isn't on the disk yet fills a
+    /// group of the journal, or it is a call or a request for resends, and the firm has had its
+    /// rate.
     #[inline(always)]
     fn is_late(&self, connection: &Connection<'_>) -> bool {
+        if self.tallies.is_group_full() {
+            return connection.firm().is_some();
+        }
         if !self.tallies.has_rate() {
             return false;
         }

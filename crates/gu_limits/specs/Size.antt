@@ -1,5 +1,5 @@
 -- How large a book is, and what memory it takes.
-use Rattle.std.specs.Prelude.{ℕ, ◌+◌, ◌-◌, ◌*◌, ◌^◌, min}
+use Rattle.std.specs.Prelude.{ℕ, ◌+◌, ◌-◌, ◌*◌, ◌^◌, min, nat_le, Bool}
 use Rattle.gu_limits.specs.declared.size.Size.{Size}
 
 -- what a number of 64 bits has of a number
@@ -22,3 +22,22 @@ memory_of size = capped (capped (size.entries * entry_bytes) + capped (size.part
 abbrev pub with_call : Size → ℕ → Size
 with_call size parts =
     record { entries = capped (size.entries + 1); parts = capped (size.parts + parts) }
+
+-- how many bytes of memory a group of the journal may take, and at most for an entry and a part
+abbrev pub group_bytes : ℕ
+group_bytes = 8_000_000
+
+abbrev pub group_entry_bytes : ℕ
+group_entry_bytes = 1_000
+
+abbrev pub group_part_bytes : ℕ
+group_part_bytes = 150
+
+-- at most how many bytes a group takes for so many
+abbrev pub group_of : Size → ℕ
+group_of size = capped
+    (capped (size.entries * group_entry_bytes) + capped (size.parts * group_part_bytes))
+
+-- so many fill it
+abbrev pub fills_group : ℕ → Bool
+fills_group bytes = nat_le group_bytes bytes

@@ -11,6 +11,7 @@ use gu_base::{Entry, Memory};
 use gu_board::Board;
 use gu_command::{KeepError, RecordError};
 use gu_desk::{Desk, Job, JournalSeat, News, Ticket};
+use gu_limits::GROUP_BYTES;
 use gu_message::{SendingTime, is_moment};
 use jiff::Timestamp;
 use std::alloc::Global;
@@ -58,8 +59,9 @@ impl<K: OpenJournal, J: Job> Model for Recorder<K, J> {
         × (r.failed ≡ false → K.takes r.journal × K.says r.journal r.seat.kept) };
 }
 
-/// How many bytes are kept free for a record where memory lacks.
-const ROOM: usize = 4 << 20;
+/// How many bytes are kept free for a record where memory lacks: a group's, and those of a last
+/// call of each worker, of which a group may be longer.
+const ROOM: usize = (GROUP_BYTES + GROUP_BYTES / 16) as usize;
 
 /// A law: what a ticket rests on whose receipt was met is kept by a journal that keeps what its
 /// seat knows to be durable.

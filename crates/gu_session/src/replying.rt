@@ -13,7 +13,7 @@ ghost use Rattle.gu_session.specs.Text.{wire};
 use crate::kept::KeptMessages;
 use crate::link::{LinkState, Waiting};
 use crate::writing::{Writer, write_new};
-use gu_base::{Answer, FirmId, Memory, Report};
+use gu_base::{Answer, Memory, Report};
 use gu_message::SendingTime;
 use jiff::Timestamp;
 use std::alloc::Global;
@@ -69,20 +69,21 @@ fn tell_reports(
     Ok(())
 }
 
-/// No messages, with room for the first ones where reports are to come.
-fn room_for(alloc: Global, reports: &[Report]) -> Result<KeptMessages, Memory>
+/// No messages, in the room of others, with room for the first ones where reports are to come.
+fn emptied(spare: KeptMessages, reports: &[Report]) -> Result<KeptMessages, Memory>
     ensures { IfOk result (λ fresh. fresh ≡ []) }
 {
-    if reports.is_empty() {
-        Ok(KeptMessages::new(alloc))
-    } else {
-        KeptMessages::with_room(alloc)
+    let mut fresh = spare;
+    fresh.clear();
+    if !reports.is_empty() {
+        fresh.make_room()?;
     }
+    Ok(fresh)
 }
 
-/// The messages of a Reply, numbered from this one on.
+/// The messages of a Reply, numbered from this one on, in the room of others.
 fn messages(
-    alloc: Global,
+    spare: KeptMessages,
     waiting: Option<Waiting>,
     answer: &Option<Answer>,
     reports: &[Report],
@@ -98,7 +99,7 @@ fn messages(
     ensures { IfOk result
         (λ fresh. fresh ≡ kept_from time next (reply_bodies time waiting answer.now reports.now)) }
 {
-    let mut fresh = room_for(alloc, reports)?;
+    let mut fresh = emptied(spare, reports)?;
     let mut number = next;
     if let Some(waiting) = waiting {
         if let Some(answer) = answer {
@@ -117,17 +118,18 @@ fn room_of(fresh: &KeptMessages) -> usize {
         .saturating_add(fresh.len().saturating_mul(FRAME_ROOM))
 }
 
-/// The messages of a Reply at this moment, and their frames.
+/// The messages of a Reply at this moment, in the room of others, and their frames.
 pub fn replied(
+    spare: KeptMessages,
     alloc: Global,
-    house: FirmId,
-    firm: FirmId,
+    writer: &Writer,
     link: &LinkState,
     answer: &Option<Answer>,
     reports: &[Report],
     moment: Timestamp,
 ) -> Result<(KeptMessages, Vec<u8>), Memory>
     requires moment { pos 0 ≤ℤ moment.nanosecond }
+    requires time { writer.now.time ≡ time_of moment }
     requires few { All ShowsFewParts reports.now }
     requires numbers { link.now.next
         + (length (answer_of link.now.waiting answer.now) + length reports.now)
@@ -136,20 +138,20 @@ pub fn replied(
         ≡ kept_from (time_of moment) link.now.next
         (reply_bodies (time_of moment) link.now.waiting answer.now reports.now)) }
     ensures send { IfOk result
-        (λ r. r.1.items ≡ wire house (Some firm) (time_of moment) (map new_of r.0)) }
+        (λ r. r.1.items ≡ wire writer.now.house (Some writer.now.firm) (time_of moment)
+        (map new_of r.0)) }
 {
-    let time = SendingTime::new(moment);
     let fresh = messages(
-        alloc,
+        spare,
         link.waiting,
         answer,
         reports,
         link.next,
         moment,
-        time,
+        writer.time,
     )?;
     let mut send = Vec::new(alloc);
     send.reserve(room_of(&fresh))?;
-    write_new(&mut send, &Writer { house, firm, time }, &fresh)?;
+    write_new(&mut send, writer, &fresh)?;
     Ok((fresh, send))
 }

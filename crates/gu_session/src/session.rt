@@ -37,6 +37,7 @@ use gu_parties::House;
 use jiff::Timestamp;
 use std::alloc::{AllocError, Global};
 use std::marker::Model;
+use std::mem::replace;
 
 /// The session of one connection of a member firm to the house.
 ///
@@ -47,6 +48,8 @@ pub struct Session<'a> {
     house: &'a House,
     link: LinkState,
     kept: KeptMessages,
+    // The messages of a Reply before, whose room the next one has.
+    spare: KeptMessages,
 }
 
 impl<'a> Model for Session<'a> {
@@ -181,6 +184,7 @@ impl<'a> Session<'a> {
                 tested: false,
             },
             kept: KeptMessages::new(alloc),
+            spare: KeptMessages::new(alloc),
         }
     }
 
@@ -383,13 +387,25 @@ impl<'a> Session<'a> {
     {
         match self.link.firm {
             None => Ok(self.nothing(false)),
-            Some(firm) => self.tell(firm, answer, reports, moment),
+            Some(firm) => {
+                let spare = self.take_spare();
+                self.tell(spare, firm, answer, reports, moment)
+            }
         }
     }
 
-    /// Sends the answer to the call that waits, and reports, to the firm, and keeps them.
+    /// Takes the messages out whose room is for the next ones.
+    fn take_spare(&mut self) -> KeptMessages
+        ensures { self.new ≡ self.old }
+    {
+        replace(&mut self.spare, KeptMessages::new(self.alloc))
+    }
+
+    /// Sends the answer to the call that waits, and reports, to the firm, and keeps them, in the
+    /// room of others.
     fn tell(
         &mut self,
+        spare: KeptMessages,
         firm: FirmId,
         answer: &Option<Answer>,
         reports: &[Report],
@@ -408,9 +424,13 @@ impl<'a> Session<'a> {
         if !has_numbers(link.next, answers(link.waiting, answer), reports.len()) {
             return Ok(self.shut_down());
         }
-        let house = self.house.house();
-        let (fresh, send) = replied(self.alloc, house, firm, &link, answer, reports, moment)?;
-        self.keep_fresh(&fresh, moment)?;
+        let writer = Writer {
+            house: self.house.house(),
+            firm,
+            time: SendingTime::new(moment),
+        };
+        let (fresh, send) = replied(spare, self.alloc, &writer, &link, answer, reports, moment)?;
+        self.keep_fresh(fresh, moment)?;
         Ok(Actions {
             send,
             call: None,
@@ -418,18 +438,22 @@ impl<'a> Session<'a> {
         })
     }
 
-    /// Keeps the new application messages, which were sent at this moment. The growth comes first.
-    fn keep_fresh(&mut self, fresh: &KeptMessages, moment: Timestamp) -> Result<(), Memory>
-        requires { self.old.link.next + length fresh.now ≤ past_last }
-        ensures ok { OnOk result (self.new ≡ (tells moment self.old fresh.now).after) }
+    /// Keeps the new application messages, which were sent at this moment, and their room, if that
+    /// is small. The growth comes first.
+    fn keep_fresh(&mut self, fresh: KeptMessages, moment: Timestamp) -> Result<(), Memory>
+        requires { self.old.link.next + length fresh ≤ past_last }
+        ensures ok { OnOk result (self.new ≡ (tells moment self.old fresh).after) }
         ensures err { OnErr result (self.new ≡ self.old) }
     {
         let count = fresh.len();
-        self.kept.keep(fresh)?;
+        self.kept.keep(&fresh)?;
         self.link.waiting = None;
         self.link.next += count as u32;
         if count > 0 {
             self.link.went = moment;
+        }
+        if fresh.are_small() {
+            self.spare = fresh;
         }
         Ok(())
     }

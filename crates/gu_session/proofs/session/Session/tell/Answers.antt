@@ -52,7 +52,7 @@ returns-clause-ok c =
     let fits_before : fits s.link ≡ true = subst (λ (l : LinkState). fits l ≡ true) link c.self.invariant in
     let few : s.link.next + length ms ≤ 1000000000 = grind (arith, nat_tests, has, c.if-not-has_numbers.false) in
     let house =
-    ap (λ (h : List ℕ). wire h (Some c.args.firm) time (map new c.in_ok-fresh.fresh)) c.house-house.ensures in
+    ap (λ (h : List ℕ). wire h (Some c.args.firm) time (map new c.in_ok-fresh.fresh)) c.house.ensures in
     let seen =
     ap (λ (t : Seen). wire t.house.house (Some c.args.firm) time (map new c.in_ok-fresh.fresh)) c.self.view_is in
     let send = c.in_ok-fresh.ensures.send ∙ house ∙ seen
