@@ -2,6 +2,7 @@
 import collections
 import hashlib
 import os
+import re
 import resource
 import selectors
 import shutil
@@ -35,6 +36,8 @@ MOST_BESIDE = 0.1  # the seconds that the house's calls may take beside them, wh
 RAISES, LIMIT, ASKS = 400_000, 500, 50_000  # a firm's raises, its limit before them, and how often each connection asks for the first one's reversal
 LIMITED = ("--rate", "500", "--per-firm", "4")  # as interop/README.md has it
 LOGONS, REPORTS, MOST_LOGONS = 1_500, 4_000, 512  # of one firm at once, the reports that each is due, and the megabytes that the server may take for them
+GROUP_FIRMS, GROUP_CALLS, GROUP_SYNC = 60, 250, 1_500  # firms, the calls of each, and the milliseconds of a sync meanwhile
+GROUP_ROOM, GROUP_WORKERS = 8_000, 4  # the entries for which a group has room; each worker may make one more
 KNOCKERS, KNOCKS, KNOCKING, KNOCKERS_HOLD = 3, 4_200, 6, 4_000  # processes, and for each: connects a second, seconds, and connections
 
 
@@ -60,7 +63,7 @@ class Peer:
 
     def raises(self, count):
         """Calls as many times, each with an id of its own."""
-        giver = {"BBB": "AAA", "CCC": "BBB"}[self.firm]
+        giver = {"BBB": "AAA", "CCC": "BBB"}.get(self.firm, "GGG")
         ids = [f"{self.name}{self.number + n}" for n in range(count)]
         calls = [f"70={it}|71=0|626=91|5001={giver}|5004=1|" for it in ids]
         frames = [message("J", self.firm, self.number + n, it) for n, it in enumerate(calls)]
@@ -108,10 +111,10 @@ class Server:
     """A server that keeps its book in the journal of a room, or serves one, with these words more. A firm may have as many
     connections as it likes, where the words don't say and nothing is as usual."""
 
-    def __init__(self, room, name, *words, kind="keep", workers=2, shell=(), env=(), usual=False):
+    def __init__(self, room, name, *words, kind="keep", workers=2, shell=(), env=(), usual=False, house=HOUSE):
         self.port, self.journal = free_port(), f"{room}/{name}"
         self.told = open(f"{room}/{name}.told", "w+b")
-        book = [HOUSE, self.journal] if kind == "keep" else [HOUSE]
+        book = [house, self.journal] if kind == "keep" else [house]
         if kind == "keep" and "--per-firm" not in words and not usual:
             words = (*words, "--per-firm", "1000000")
         given = [ALLOCD, kind, *book, "--port", str(self.port), "--workers", str(workers), *words]
@@ -491,6 +494,38 @@ class Beating(Peer):
             self.send("0")
             self.read(seconds=0.5)
         return self.text() == "" and b"\x0135=5\x01" not in self.got
+
+
+def many_firms(path):
+    """A house file of many firms, each of which takes what GGG gives up."""
+    firms = [f"F{n:02}" for n in range(GROUP_FIRMS)]
+    lines = [f"FIRM {it}" for it in ["GGG", *firms]] + [f"AGREEMENT GGG {it} 1 1" for it in firms]
+    with open(path, "w") as file:
+        file.write("\n".join(["GIVEUP 1", "HOUSE HSE", *lines, ""]))
+    return firms
+
+
+def groups(room):
+    """A group has no more entries than it has room for: further calls wait until it is on the disk."""
+    shim, file, house = f"{room}/slow.so", f"{room}/slow", f"{room}/many.house"
+    compiled(f"{TOP}/checks/slow.c", shim)
+    firms = many_firms(house)
+    env = {"LD_PRELOAD": shim, "SLOW_SYNC": str(GROUP_SYNC), "SLOW_SYNC_AT": file}
+    with Server(room, "groups", workers=GROUP_WORKERS, env=env, house=house) as server:
+        peers = [server.peer(it) for it in firms]
+        for it in peers:
+            it.read(b"\x0135=A\x01")
+        open(file, "w").close()
+        for it in peers:
+            it.raises(GROUP_CALLS)
+            it.send("5")
+        for it in peers:
+            it.read()
+        made = sum(it.made() for it in peers)
+        sizes = [int(it) for it in re.findall(r"event=slow_sync ms=\d+ entries=(\d+)", server.says())]
+        most = max(sizes, default=0)
+        well = made == sum(sizes) == GROUP_FIRMS * GROUP_CALLS and GROUP_ROOM <= most <= GROUP_ROOM + GROUP_WORKERS
+        yield well, f"of {made} calls at once, while a sync takes {GROUP_SYNC} ms, a group has at most {most}: {sizes}"
 
 
 def answered(peer, seconds):
@@ -942,7 +977,7 @@ def strangers(room):
     yield count >= 18, f"{count} of 20 Logons 300 ms after their connects get in beside {rate:.0f} connects a second"
 
 
-PARTS = {it.__name__: it for it in (turns, reversals, flock, strangers, rates, entries, parts, memory, held, refused, race, connections, unnamed, behind, silent, logons, patience, deaf, reconnecting)}
+PARTS = {it.__name__: it for it in (turns, reversals, flock, strangers, rates, entries, parts, memory, held, groups, refused, race, connections, unnamed, behind, silent, logons, patience, deaf, reconnecting)}
 
 
 def allow_descriptors():
