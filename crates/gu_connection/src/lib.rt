@@ -31,6 +31,6 @@ pub use beginning::{Beginning, NoBeginning, asked};
 pub use connection::{Closed, Connection};
 pub use lingering::{linger_wait, read_away, stays, takes_nothing};
 pub use opening::{LOGON_WAIT, Open, listening, new_key, prepare};
-pub use span::Span;
+pub use span::{Span, micros_between};
 pub use steady::SteadyClock;
 pub use worker::{Left, Worker, expire};

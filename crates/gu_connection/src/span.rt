@@ -12,14 +12,19 @@ pub struct Span {
     pub micros: u64,
 }
 
+/// How many microseconds there are from one moment to a later one; all where that is more than
+/// 2^64 - 1.
+pub fn micros_between(start: Instant, end: Instant) -> u64 {
+    end.duration_since(start)
+        .as_micros()
+        .min(u128::from(u64::MAX)) as u64
+}
+
 impl Span {
     /// How many microseconds of it are over then. All, where that isn't known.
     pub fn used_at(&self, at: Option<Instant>) -> u64 {
         match at {
-            Some(at) => {
-                let passed = at.duration_since(self.start);
-                passed.as_micros().min(u128::from(u64::MAX)) as u64
-            }
+            Some(at) => micros_between(self.start, at),
             None => u64::MAX,
         }
     }

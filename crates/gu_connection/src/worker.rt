@@ -285,8 +285,8 @@ impl<'a, J: Job, R: Wait + Clock, G: Gate> Worker<'a, J, R, G> {
         }
     }
 
-    /// Whether what stands first on a connection of a firm waits: what isn't on the disk yet fills a
-    /// group of the journal, or it is a call or a request for resends, and the firm has had its
+    /// Whether what stands first on a connection of a firm waits: what isn't on the disk yet fills
+    /// a group of the journal, or it is a call or a request for resends, and the firm has had its
     /// rate.
     #[inline(always)]
     fn is_late(&self, connection: &Connection<'_>) -> bool {

@@ -61,7 +61,7 @@ impl Size {
     }
 }
 
-/// Whether so many bytes that aren't on the disk yet fill a group of the journal: further calls wait
+/// Whether so many bytes that aren't on the disk yet fill a journal's group: further calls wait
 /// until they are there.
 pub fn fills_group(bytes: u64) -> bool
     ensures { result ≡ fills_group_of bytes }

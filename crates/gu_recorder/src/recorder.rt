@@ -10,6 +10,7 @@ use crate::journals::OpenJournal;
 use gu_base::{Entry, Memory};
 use gu_board::Board;
 use gu_command::{KeepError, RecordError};
+use gu_connection::micros_between;
 use gu_desk::{Desk, Job, JournalSeat, News, Ticket};
 use gu_limits::GROUP_BYTES;
 use gu_message::{SendingTime, is_moment};
@@ -89,9 +90,8 @@ pub(crate) fn moment<R: Clock>(rt: &R) -> Option<SendingTime> {
 }
 
 /// How many microseconds there are from one moment to a later one, if both are known.
-fn micros_between(start: Option<Instant>, end: Option<Instant>) -> Option<u64> {
-    let passed = end?.duration_since(start?);
-    Some(passed.as_micros().min(u128::from(u64::MAX)) as u64)
+fn micros_known(start: Option<Instant>, end: Option<Instant>) -> Option<u64> {
+    Some(micros_between(start?, end?))
 }
 
 /// Counts a group that took so many microseconds, if that is known, in a journal of so many bytes
@@ -250,7 +250,7 @@ impl<K: OpenJournal, J: Job> Recorder<K, J> {
             Ok(()) => {
                 self.is_bare = true;
                 self.since = Instant::now(rt).ok();
-                let took = micros_between(start, self.since);
+                let took = micros_known(start, self.since);
                 let (waited, bytes) = (self.journal.waited(), self.journal.bytes());
                 count_group(rt, board, took, waited, entries.as_slice(), bytes);
                 desk.confirm(&mut self.seat, &self.journal);

@@ -9,6 +9,7 @@ ghost use Rattle.std.specs.Prelude.{◌≡◌, ℕ, true, false, IfSome};
 ghost use Rattle.std.specs.Io.KnownBytes.{Consumes};
 ghost use Rattle.gu_recorder.specs.Replicas.{answer_of, may_go, HasAnswered, HasWord};
 
+use gu_connection::micros_between;
 use gu_journal::Meanwhile;
 use std::alloc::Global;
 use std::io;
@@ -43,8 +44,8 @@ pub(crate) struct Replica {
 
 /// How many microseconds have passed since then.
 pub(crate) fn micros_since<R: Clock>(rt: &R, since: Instant) -> u64 {
-    match since.elapsed(rt) {
-        Ok(passed) => passed.as_micros().min(u128::from(u64::MAX)) as u64,
+    match Instant::now(rt) {
+        Ok(now) => micros_between(since, now),
         Err(_) => 0,
     }
 }

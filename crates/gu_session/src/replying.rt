@@ -81,27 +81,28 @@ fn emptied(spare: KeptMessages, reports: &[Report]) -> Result<KeptMessages, Memo
     Ok(fresh)
 }
 
-/// The messages of a Reply, numbered from this one on, in the room of others.
+/// The messages of a Reply, in the room of others.
 fn messages(
     spare: KeptMessages,
-    waiting: Option<Waiting>,
+    link: &LinkState,
     answer: &Option<Answer>,
     reports: &[Report],
-    next: u32,
     moment: Timestamp,
     time: SendingTime,
 ) -> Result<KeptMessages, Memory>
     requires moment { pos 0 ≤ℤ moment.nanosecond }
     requires time { time ≡ time_of moment }
     requires few { All ShowsFewParts reports.now }
-    requires numbers { next + (length (answer_of waiting answer.now) + length reports.now)
+    requires numbers { link.now.next
+        + (length (answer_of link.now.waiting answer.now) + length reports.now)
         ≤ past_last }
-    ensures { IfOk result
-        (λ fresh. fresh ≡ kept_from time next (reply_bodies time waiting answer.now reports.now)) }
+    ensures { IfOk result (λ fresh. fresh
+        ≡ kept_from time link.now.next
+        (reply_bodies time link.now.waiting answer.now reports.now)) }
 {
     let mut fresh = emptied(spare, reports)?;
-    let mut number = next;
-    if let Some(waiting) = waiting {
+    let mut number = link.next;
+    if let Some(waiting) = link.waiting {
         if let Some(answer) = answer {
             fresh.push_answer(waiting, answer, number, time)?;
             number += 1;
@@ -141,15 +142,7 @@ pub fn replied(
         (λ r. r.1.items ≡ wire writer.now.house (Some writer.now.firm) (time_of moment)
         (map new_of r.0)) }
 {
-    let fresh = messages(
-        spare,
-        link.waiting,
-        answer,
-        reports,
-        link.next,
-        moment,
-        writer.time,
-    )?;
+    let fresh = messages(spare, link, answer, reports, moment, writer.time)?;
     let mut send = Vec::new(alloc);
     send.reserve(room_of(&fresh))?;
     write_new(&mut send, writer, &fresh)?;
