@@ -201,11 +201,11 @@ def no_room(trial):
                 fill(i, 200_000)
         a = small.machine("N", "room").start(again=False)
         until(a.serves)
-        load = small.load("room", [a], PAUSE="0.001")
-        for i in range(200):  # and it grows
+        load = small.load("room", [a], PAUSE="0.1")
+        for i in range(200):  # and it grows, from four fifths to the end in more than the two seconds between two looks
             if a.process.poll() is None:
                 fill(f"more{i}", 100_000)
-                time.sleep(0.3)
+                time.sleep(0.4)
         case(a.ends() and "etcd has no room" in a.said(), "no room in etcd: the server ends, and says so")
         told = next((it for it in a.said().splitlines() if "% of its quota" in it or "has an alarm" in it), None)
         case(told, f"it is told before: {told}")
