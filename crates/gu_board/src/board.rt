@@ -56,7 +56,7 @@ pub struct Board {
     /// The parts of the book, and the bytes of its journal.
     parts: AtomicU64,
     journal_bytes: AtomicU64,
-    /// At most how many bytes a group takes of the entries that aren't on the disk yet, and of the
+    /// About how many bytes a group takes of the entries that aren't on the disk yet, and of the
     /// calls that aren't answered yet.
     unkept: AtomicU64,
     /// Whether memory lacks for the next entry.

@@ -13,7 +13,7 @@ const PART_BYTES: u64 = 155;
 /// How many bytes of memory a group of the journal may take.
 pub const GROUP_BYTES: u64 = 8_000_000;
 
-/// At most how many of them it takes for an entry, and for a part of a Split: its copies, and what
+/// About how many of them it takes for an entry, and for a part of a Split: its copies, and what
 /// is written of it, in lists that may have doubled.
 const GROUP_ENTRY_BYTES: u64 = 1_000;
 
@@ -51,7 +51,7 @@ impl Size {
             parts: self.parts.saturating_add(parts),
         }
     }
-    /// At most how many bytes of memory a group of the journal takes for so many; all where that is
+    /// About how many bytes of memory a group of the journal takes for so many; all where that is
     /// more than 2^64 - 1.
     pub fn group_bytes(self) -> u64
         ensures { result ≡ group_of self }
