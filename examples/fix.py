@@ -8,6 +8,7 @@ import itertools
 import random
 import re
 import socket
+import threading
 import time
 
 OPENING = re.compile(rb"8=FIXT\.1\.1\x019=(\d{1,6})\x01")
@@ -60,6 +61,9 @@ def body_of(frame):
     return frame.split(b"\x01", 2)[2].rsplit(b"10=", 1)[0].decode("latin-1").replace("\x01", "|")
 
 
+ASKS = threading.Lock()  # one thread at a time asks for a port: two that begin at once would each get a hundred of their own
+
+
 @functools.cache
 def own_ports():
     """A hundred ports, again and again, that no other process takes here by `free_port` while this one runs: whoever has them
@@ -76,9 +80,11 @@ def own_ports():
 
 
 def free_port():
-    """A port of 127.0.0.1 on which nobody listens, and that is given to nobody else before 99 others."""
+    """A port of 127.0.0.1 on which nobody listens, and that is given to nobody else before 99 others, in no other thread
+    either."""
     while True:
-        port = next(own_ports()[1])
+        with ASKS:
+            port = next(own_ports()[1])
         with socket.socket() as probe:
             try:
                 probe.bind(("127.0.0.1", port))
