@@ -1,15 +1,9 @@
 -- A command that can be said, and has lawful names, is lawful.
-use Rattle.std.proofs.Common.{◌≡◌, ◌≢◌, ℕ, ◌<◌, ◌^◌, Bool, true, false, List, [], ◌∷◌, length, Option, Some, None}
-use Rattle.std.specs.Prelude.{bytes_eq, not, nat_le}
-use Rattle.std.specs.List.{AllByRecursion, list_all}
-use Rattle.std.proofs.lemmas.Bool.{and_parts, leb-true, ltb-true}
-use Rattle.std.proofs.lemmas.Slice.Eq.{bytes_eq-Decides}
-use Rattle.gu_base.specs.declared.command.Part.{Part}
-use Rattle.gu_base.specs.declared.command.Command.{Command}
-use Rattle.gu_base.specs.declared.command.Command.TheVariants.{Trade, Split, Claim, Refuse, Cancel, Agree, Raise}
-use Rattle.gu_base.specs.declared.command.Command.TheVariants.{Initiate, Decline, Reverse}
-use Rattle.gu_journal.specs.Entries.{is_short, is_sayable_to, is_sayable_part, is_sayable, HasFewParts, IsNamedTo}
-use Rattle.gu_journal.specs.Entries.{IsNamedPart, HasLawfulNames, IsLawfulTo, IsLawfulPart, IsLawfulCommand}
+use Rattle.gu_journal.proofs.Vocabulary.{Agree, AllByRecursion, and_parts, Bool, bytes_eq, bytes_eq-Decides, Command}
+use Rattle.gu_journal.proofs.Vocabulary.{false, is_sayable_part, IsLawfulCommand, IsLawfulPart, IsLawfulTo, IsNamedPart}
+use Rattle.gu_journal.proofs.Vocabulary.{leb-true, length, List, list_all, ltb-true, nat_le, None, not, Option, Part}
+use Rattle.gu_journal.proofs.Vocabulary.{Raise, Some, Split, Trade, true, [], ℕ, ◌<◌, ◌^◌, ◌∷◌, ◌≡◌, ◌≢◌}
+use Rattle.gu_journal.specs.Entries.{HasFewParts, HasLawfulNames, is_sayable, is_sayable_to, is_short, IsNamedTo}
 
 -- tests
 short_is : (n : ℕ) → is_short n ≡ true → n < 10 ^ 18
@@ -45,27 +39,14 @@ lawful_from by (Trade firm account instrument side lots) said named = (named.0, 
 lawful_from by (Split node parts) said named =
     let both = and_parts (nat_le (length parts) 100) (list_all (is_sayable_part by) parts) said in
     (named.0, leb-true (length parts) 100 both.0, parts_lawful by parts both.1 named.1)
-lawful_from by (Claim node account) said named = named
-lawful_from by (Refuse node) said named = named
-lawful_from by (Cancel node) said named = named
 lawful_from by (Agree giver taker rate limit) said named =
     let both = and_parts (is_short rate) (is_short limit) said in
     (named.0, named.1, short_is rate both.0, short_is limit both.1)
 lawful_from by (Raise giver lots) said named = (named, short_is lots said)
-lawful_from by (Initiate entry) said named = named
-lawful_from by (Decline entry) said named = named
-lawful_from by (Reverse entry) said named = named
+lawful_from by _ said named = named
 
 -- a split that can be said has few parts
 pub few_parts : (by : List ℕ) (c : Command) → is_sayable by c ≡ true → HasFewParts c
-few_parts by (Trade firm account instrument side lots) said = tt
 few_parts by (Split node parts) said = leb-true (length parts) 100
     (and_parts (nat_le (length parts) 100) (list_all (is_sayable_part by) parts) said).0
-few_parts by (Claim node account) said = tt
-few_parts by (Refuse node) said = tt
-few_parts by (Cancel node) said = tt
-few_parts by (Agree giver taker rate limit) said = tt
-few_parts by (Raise giver lots) said = tt
-few_parts by (Initiate entry) said = tt
-few_parts by (Decline entry) said = tt
-few_parts by (Reverse entry) said = tt
+few_parts by _ said = tt

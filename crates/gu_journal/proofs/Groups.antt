@@ -1,32 +1,16 @@
 -- What is written of a group makes a longer journal.
-use Rattle.std.proofs.Common.{◌≡◌, ℕ, ◌+◌, ◌-◌, ◌<◌, ◌≤◌, List, [], ◌∷◌, ◌++◌, length, length-drop}
-use Rattle.std.proofs.Common.{take, drop, refl, sym, ◌∙◌, ap, subst, arith, append_assoc, length-append, IsTrue}
-use Rattle.std.specs.List.{AllByRecursion}
-use Rattle.std.proofs.lemmas.List.{append-nil, take_all, drop_at}
-use Rattle.std.proofs.lemmas.List.Elements.{All-from_recursion}
-use Rattle.gu_base.specs.House.{House}
-use Rattle.gu_base.specs.Names.{is_firm_text}
-use Rattle.gu_base.specs.Answers.{answer_to}
-use Rattle.gu_base.specs.Runs.{call_of, opening_history, IsRunFrom}
-use Rattle.gu_base.specs.declared.entry.Entry.{Entry}
 use Rattle.gu_base.specs.declared.entry.Answer.TheVariants.{Accepted}
-use Rattle.gu_codec.specs.Writing.{message_text}
-use Rattle.gu_store.specs.Zeros.{HasNoZero}
-use Rattle.hex.specs.Hex.{IsBytes}
-use Rattle.gu_journal.specs.Entries.{is_trade, message_of}
-use Rattle.gu_journal.specs.Session.{head_of, seal_of, seal_with}
-use Rattle.gu_journal.specs.Groups.{entry_frames, group_frames, head_frame, IsSayableEntry}
-use Rattle.gu_journal.specs.Groups.{IsMoment, IsGroupOf}
-use Rattle.sha2.specs.Hashers.{Holds512}
-use Rattle.sha2.specs.Sha512.{sha512}
-use Rattle.sha2.specs.declared.Sha512.{Sha512}
-use Rattle.gu_journal.specs.Journal.{IsNumbered, IsHead, IsNext, IsSeal, Says, says_none, says_next, IsJournal}
-use Rattle.gu_journal.specs.Journal.{head_alone, group_more, IsGroupBehind}
-use Rattle.gu_journal.proofs.Clear.{IsClear, clear_by, clear_join}
-use Rattle.gu_journal.proofs.Frames.{one_frame, first_eight}
-use Rattle.gu_journal.proofs.Meanings.{call_is, head_is, seal_is}
-use Rattle.gu_journal.proofs.Writable.{call_writable, head_writable, seal_writable}
-use Rattle.gu_journal.proofs.Writable.{call_clear, head_clear, seal_clear}
+use Rattle.gu_journal.proofs
+use proofs.{Meanings.{call_is, head_is, seal_is}, Playing.{first_eight, one_frame}, Vocabulary.AllByRecursion}
+use proofs.Vocabulary.{answer_to, ap, append-nil, append_assoc, arith, call_of, decimal, drop, drop_at, Entry}
+use proofs.Vocabulary.{entry_frames, group_frames, group_more, HasNoZero, head_alone, head_frame, head_of, Holds512}
+use proofs.Vocabulary.{House, is_firm_text, is_trade, IsBytes, IsGroupBehind, IsGroupOf, IsHead, IsJournal, IsMoment}
+use proofs.Vocabulary.{IsNext, IsRunFrom, IsSayableEntry, IsSeal, IsTrue, length, length-append, length-drop, List}
+use proofs.Vocabulary.{message_of, message_text, opening_history, refl, Says, says_next, says_none, seal_of, seal_with}
+use proofs.Vocabulary.{Sha512, sha512, Some, subst, sym, take, take_all, [], ℕ, ◌++◌, ◌+◌, ◌-◌, ◌<◌, ◌∙◌, ◌∷◌, ◌≡◌, ◌≤◌}
+use proofs.Writable.{all_join, call_clear, call_writable, clear_by, clear_join, head_clear, head_writable, IsClear}
+use proofs.Writable.{seal_clear, seal_writable}
+use Rattle.std.proofs.{lemmas.List.Elements.All-from_recursion, Math.Seq.take-add}
 
 -- ---- as bytes
 
@@ -59,9 +43,6 @@ abbrev Runs : House → List Entry → List Entry → Type 0
 Runs t h es = (before after : List Entry) (e : Entry) → h ++ es ≡ before ++ e ∷ after → length h ≤ length before
     → answer_to t before (call_of e) ≡ Accepted (length before + 1) e.status
 
-numbered : (k n : ℕ) (m : List (ℕ × List ℕ)) → k ≡ n → IsNumbered n m → IsNumbered k m
-numbered k n m e is = subst (λ (j : ℕ). IsNumbered j m) (sym e) is
-
 module _ (t : House) (named : IsTrue (is_firm_text t.house)) (moment : List ℕ) (is_moment : IsMoment moment) where
   next_is : (h : List Entry) (e : Entry) (n : ℕ) → n ≡ length h + 1 → n ≤ 1000001 → IsSayableEntry e
       → answer_to t h (call_of e) ≡ Accepted (length h + 1) e.status
@@ -70,15 +51,14 @@ module _ (t : House) (named : IsTrue (is_firm_text t.house)) (moment : List ℕ)
     trade = is_trade e.command;
     meaning = call_is t.house moment n (call_of e) (omega (arith, n_is)) (omega (arith, few)) is_moment.timestamp ok;
     accepted = accepted;
-    number = numbered (length h + 1) n (message_of t.house moment n (call_of e)) (sym n_is) refl;
+    number = ap (λ (k : ℕ). Some (decimal k)) n_is;
   }
 
   says_more : (h0 : List Entry) (bytes : List ℕ) (h es : List Entry) (n : ℕ) → Says t h0 bytes h → n ≡ length h + 1
       → n + length es ≤ 1000001
       → AllByRecursion IsSayableEntry es → Runs t h es → Says t h0 (bytes ++ entry_frames t.house moment n es) (h ++ es)
   says_more h0 bytes h [] n says n_is few ok runs =
-      subst (λ (b : List ℕ). Says t h0 b (h ++ [])) (sym (append-nil bytes))
-      (subst (λ (k : List Entry). Says t h0 bytes k) (sym (append-nil h)) says)
+      rw (append-nil bytes, append-nil h) says
   says_more h0 bytes h (e ∷ es) n says n_is few ok runs =
       let m = message_of t.house moment n (call_of e) in
       let frame = message_text m in
@@ -88,11 +68,8 @@ module _ (t : House) (named : IsTrue (is_firm_text t.house)) (moment : List ℕ)
       let more : (h ++ e ∷ []) ++ es ≡ h ++ e ∷ es = append_assoc h (e ∷ []) es in
       let longer : length (h ++ e ∷ []) ≡ length h + 1 = omega (arith, length-append h (e ∷ [])) in
       let all = says_more h0 (bytes ++ frame) (h ++ e ∷ []) es (n + 1) one (omega (arith, n_is, longer))
-      (omega (arith, few)) ok.1
-      (λ before after x split le. runs before after x (sym more ∙ split) (omega (arith, le, longer))) in
-      subst (λ (b : List ℕ). Says t h0 b (h ++ e ∷ es)) (append_assoc bytes frame
-      (entry_frames t.house moment (n + 1) es))
-      (subst (λ (k : List Entry). Says t h0 ((bytes ++ frame) ++ entry_frames t.house moment (n + 1) es) k) more all)
+      (omega (arith, few)) ok.1 (λ before after x split le. runs before after x (sym more ∙ split) (omega arith)) in
+      rw (append_assoc bytes frame (entry_frames t.house moment (n + 1) es), more) at all
 
   -- what is written is a group behind the bytes
   pub group_is : (bytes : List ℕ) (h es : List Entry) (n : ℕ) → n ≡ length h + 1 → n + length es ≤ 1000001
@@ -107,20 +84,13 @@ module _ (t : House) (named : IsTrue (is_firm_text t.house)) (moment : List ℕ)
       let seal : IsSeal t (bytes ++ entries) (h ++ es) m = record {
         meaning = seal_is t.house moment next named (omega (arith, n_is)) (omega (arith, few)) is_moment.timestamp
             (bytes ++ entries) n;
-        number = numbered (length (h ++ es) + 1) next m (omega (arith, n_is, length-append h es)) refl;
+        number = ap (λ (k : ℕ). Some (decimal k)) (omega (arith, n_is, length-append h es));
         digest = refl;
       } in
       let writable = seal_writable t.house moment next (bytes ++ entries) n named (omega (arith, few))
       (omega (arith, few)) is_moment.text in
-      record {
-        entries = entries;
-        frame = message_text m;
-        m = m;
-        parts = refl;
-        says = says;
-        one = one_frame m writable;
-        seal = seal;
-      }
+      let one = one_frame m writable in
+      record { entries = entries; frame = message_text m; m = m; parts = refl; says = says; one = one; seal = seal }
 
   -- and with it the journal grows
   pub grows : (pin bytes : List ℕ) (h es : List Entry) (n : ℕ) → IsJournal t pin bytes h → n ≡ length h + 1
@@ -129,8 +99,7 @@ module _ (t : House) (named : IsTrue (is_firm_text t.house)) (moment : List ℕ)
       → IsJournal t pin (bytes ++ group_frames t.house moment n es bytes) (h ++ es)
   grows pin bytes h es n journal n_is few ok run =
       let g = group_is bytes h es n n_is few ok run in
-      subst (λ (b : List ℕ). IsJournal t pin b (h ++ es))
-      (append_assoc bytes g.entries g.frame ∙ ap (λ (b : List ℕ). bytes ++ b) (sym g.parts))
+      rw (g.parts, ← append_assoc)
       (group_more bytes g.entries g.frame h (h ++ es) g.m journal g.says g.one g.seal)
 
   -- a journal begins with its head
@@ -140,7 +109,7 @@ module _ (t : House) (named : IsTrue (is_firm_text t.house)) (moment : List ℕ)
       let m = head_of t.house moment n pin in
       let head : IsHead t pin m = record {
         meaning = head_is t.house moment n named (omega (arith, n_is)) (omega (arith, few)) is_moment.timestamp pin;
-        number = numbered (length (opening_history t) + 1) n m (sym n_is) refl;
+        number = ap (λ (k : ℕ). Some (decimal k)) n_is;
         version = refl;
         digest = refl;
       } in
@@ -148,6 +117,13 @@ module _ (t : House) (named : IsTrue (is_firm_text t.house)) (moment : List ℕ)
       (omega (arith, few)) is_moment.text size)) head
 
 -- ---- steps of the code
+
+-- one more
+pub all_more : {A : Type 0} (p : A → Type 0) (xs : List A) (i : ℕ) (x : A) (rest : List A) → drop i xs ≡ x ∷ rest
+    → AllByRecursion p (take i xs) → p x → AllByRecursion p (take (i + 1) xs)
+all_more p xs i x rest is all ok =
+    subst (λ l. AllByRecursion p l) (sym (take-add i 1 xs ∙ (λ k. take i xs ++ take 1 (is k))))
+    (all_join p (take i xs) (x ∷ []) all (ok, tt))
 
 -- one entry more is written
 pub one_more : (house moment : List ℕ) (n m : ℕ) (e : Entry) (later : List Entry) (old new all : List ℕ)
@@ -178,7 +154,7 @@ is_group_of house moment n es old one new frames text slice digest at named is_m
     let seal = message_text (seal_with house moment next digest n) in
     let entries = entry_frames house moment n es in
     let all : slice ≡ frames ++ seal = slice_is ∙ text_is in
-    let whole : text ≡ entries ++ seal = text_is ∙ ap (λ (f : List ℕ). f ++ seal) frames_is in
+    let whole : text ≡ entries ++ seal = rw frames_is at text_is in
     let sent = clear_by moment is_moment.clear in
     let some = first_eight (seal_with house moment next digest n) in
     let rest : take (length slice - at) (drop at slice) ≡ seal =
@@ -186,20 +162,16 @@ is_group_of house moment n es old one new frames text slice digest at named is_m
     ∙ ap (drop at) all ∙ drop_at frames seal at (sym at_is) in
     let sealed_of : (bytes : List ℕ) → Holds512 old bytes → entries ++ seal ≡ group_frames house moment n es bytes =
     λ bytes h. ap (λ (d : List ℕ). entries ++ message_text (seal_with house moment next d n))
-    (digest_is (bytes ++ frames) (first bytes h) ∙ ap (λ (f : List ℕ). sha512 (bytes ++ f)) frames_is) in
+    (rw frames_is at (digest_is (bytes ++ frames) (first bytes h))) in
     record {
       some = omega (arith, ap length whole, length-append entries seal, ap length some.1);
-      no_zero = subst HasNoZero (sym whole) (none_zero (entries ++ seal) (clear_join entries seal
+      no_zero = rw whole (none_zero (entries ++ seal) (clear_join entries seal
           (entries_clear house moment n es named sent sayable)
           (seal_clear house moment next digest n named sent bytes)));
       named = named;
       sayable = sayable;
       few = few;
       group = λ bytes h. whole ∙ sealed_of bytes h;
-      hashed = λ bytes h.
-          let joined : (bytes ++ frames) ++ take (length slice - at)
-          (drop at slice) ≡ bytes ++ group_frames house moment n es bytes =
-          ap (λ (r : List ℕ). (bytes ++ frames) ++ r) rest ∙ append_assoc bytes frames seal
-          ∙ ap (λ (f : List ℕ). bytes ++ (f ++ seal)) frames_is ∙ ap (λ (l : List ℕ). bytes ++ l) (sealed_of bytes h) in
-          subst (λ (l : List ℕ). Holds512 new l) joined (second (bytes ++ frames) (first bytes h));
+      hashed = λ bytes h. rw (rest, append_assoc bytes frames seal, frames_is, sealed_of bytes h)
+          at (second (bytes ++ frames) (first bytes h));
     }

@@ -1,29 +1,17 @@
 -- What a crash leaves of a journal at rest is read as the history that it keeps, and a start answers it.
-use Rattle.std.proofs.Common.{◌≡◌, ◌≢◌, ℕ, zero, suc, ◌<◌, List, [], ◌∷◌, ◌++◌, length, sym, ◌∙◌, ap, arith}
-use Rattle.std.proofs.Common.{refl, length-append, append-nil}
-use Rattle.gu_base.specs.House.{House}
-use Rattle.gu_base.specs.declared.entry.Entry.{Entry}
-use Rattle.gu_batch.specs.Output.{history_of}
 use Rattle.gu_codec.specs.Messages.{Broken}
-use Rattle.gu_store.specs.Zeros.{zeros, counted, HasZero}
-use Rattle.gu_store.proofs.Counted.{counted_behind, counted_zeros}
-use Rattle.gu_journal.specs.Counting.{Stands, Recovers, IsPart}
-use Rattle.gu_journal.specs.Journal.{IsJournal}
-use Rattle.gu_journal.specs.Keeping.{disk_of, Keeps}
-use Rattle.gu_journal.specs.declared.journal.Journal.{Journal}
-use Rattle.gu_journal.proofs.Frames.{shut_ends}
-use Rattle.gu_journal.proofs.Playing.{history_is}
-use Rattle.gu_journal.proofs.Standing.{journal_recovers}
-
-none : ◌≢◌ {A = ℕ} 0 56
-none e = absurd (omega (arith, e))
+use Rattle.gu_journal.proofs.{Playing.{history_is, shut_ends}, Standing.journal_recovers, Vocabulary.{ap, append-nil}}
+use Rattle.gu_journal.proofs.Vocabulary.{arith, counted, counts, disk_of, Entry, history_of, House, IsJournal, IsPart}
+use Rattle.gu_journal.proofs.Vocabulary.{Journal, Keeps, length, length-append, length-replicate, List, Recovers, refl}
+use Rattle.gu_journal.proofs.Vocabulary.{Stands, suc, sym, zero, zeros, [], ℕ, ◌++◌, ◌<◌, ◌∙◌, ◌∷◌, ◌≡◌}
 
 -- with a zero behind it a journal is read as its history
 pub zero_says : (t : House) (pin bytes more file : List ℕ) (h : List Entry) → IsJournal t pin bytes h
     → file ≡ bytes ++ 0 ∷ more → history_of t file ≡ h
 zero_says t pin bytes more file h journal is =
     ap (history_of t) is
-    ∙ history_is t pin bytes (0 ∷ more) h (Broken (length bytes)) journal (shut_ends (length bytes) 0 more none)
+    ∙ history_is t pin bytes (0 ∷ more) h (Broken (length bytes)) journal
+    (shut_ends (length bytes) 0 more (λ e. absurd (omega (arith, e))))
 
 -- zeros begin with one
 some_zeros : (n : ℕ) → 0 < n → (more : List ℕ) × (zeros n ≡ 0 ∷ more)
@@ -42,11 +30,7 @@ module _ {D : Type 0} (seen : D → List ℕ) (may_leave : D → List ℕ → Ty
       zero_says t pin k.bytes zero.0 c h k.is_journal (kept_file ∙ ap (λ (l : List ℕ). k.bytes ++ l) zero.1)
 
   kept_counted : counted c ≡ k.bytes
-  kept_counted =
-      ap counted kept_file ∙ counted_behind k.bytes (zeros j.store.left) k.file.no_zero
-      ∙ ap (λ (l : List ℕ). k.bytes ++ l)
-      (ap counted (sym (append-nil (zeros j.store.left))) ∙ counted_zeros j.store.left [] k.file.some)
-      ∙ append-nil k.bytes
+  kept_counted = counts k.bytes c j.store.left k.file.no_zero k.file.some ([], kept_file ∙ sym (append-nil _))
 
   pub kept_stands : Stands t pin c h
   kept_stands = (k.bytes, k.is_journal, ([], kept_counted ∙ sym (append-nil k.bytes)))
@@ -56,21 +40,12 @@ module _ {D : Type 0} (seen : D → List ℕ) (may_leave : D → List ℕ → Ty
 
   pub kept_part : IsPart t pin c
   kept_part = record {
-    zero = zero_behind j.store.left k.file.some kept_file;
+    zero =
+        let zeros_len = length-replicate {A = ℕ} j.store.left 0 in
+        omega (arith, k.file.some, ap length kept_counted, ap length kept_file, length-append {A = ℕ});
     bytes = k.bytes;
     h = h;
     journal = k.is_journal;
     begins = ([], sym kept_counted ∙ sym (append-nil (counted c)));
     stands = (h, kept_stands);
   }
-    where
-      zero_behind : (n : ℕ) → 0 < n → c ≡ k.bytes ++ zeros n → HasZero c
-      zero_behind n some is =
-          let first = some_zeros n some in
-          omega (
-            arith,
-            ap length kept_counted,
-            ap length is,
-            ap length first.1,
-            length-append k.bytes (zeros n),
-          )

@@ -1,29 +1,17 @@
 -- What is left of a journal behind the frames that were taken.
-use Rattle.std.proofs.Common.{◌≡◌, ◌≢◌, ◌⊎◌, inl, inr, ℕ, ◌<◌, ◌≤◌, List, [], ◌∷◌, ◌++◌, length, take, drop, Some}
-use Rattle.std.proofs.Common.{None, Ok, refl, sym, ◌∙◌, ap, subst, arith, append_assoc, append-nil, length-append}
-use Rattle.std.proofs.lemmas.List.{take_at, drop_at, drop-append-le, take-append-le}
-use Rattle.gu_base.specs.House.{House}
-use Rattle.gu_base.specs.Runs.{opening_history}
-use Rattle.gu_base.specs.declared.entry.Entry.{Entry}
-use Rattle.gu_codec.specs.Fronts.{Front, Whole, Garbled, Partial, Broken, IsFrontOf}
-use Rattle.gu_codec.specs.Grammar.{IsFront}
-use Rattle.gu_codec.specs.Messages.{Message}
-use Rattle.gu_codec.proofs.FrontOf.{front_alone}
-use Rattle.gu_codec.proofs.Streams.{frame_len, begins_stays, broken_stays}
-use Rattle.gu_message.specs.Meaning.{meaning_of}
-use Rattle.gu_message.specs.declared.inbound.Inbound.{Inbound}
 use Rattle.gu_message.specs.declared.inbound.Inbound.TheVariants as inbound
-use Rattle.gu_store.specs.Store.{StillHas}
-use Rattle.gu_journal.specs.Counting.{BeginsBy}
 use Rattle.gu_codec.specs.Tags as tag
+use Rattle.gu_codec.proofs.FrontOf.{front_alone}
+use Rattle.gu_journal.proofs
+use proofs.{Going.{adds_of, front_frame, garbled_len}, Vocabulary.{AddsNext, ap, append-nil, append_assoc, arith}}
+use proofs.Vocabulary.{begins_stays, BeginsBy, Broken, broken_stays, drop, drop-append-le, drop_at, encode_lower, Entry}
+use proofs.Vocabulary.{frame_len, Fresh, Front, Garbled, group_more, head_alone, House, Inbound, inl, inr, IsFront}
+use proofs.Vocabulary.{IsFrontOf, IsGroupBehind, IsHead, IsJournal, IsOneFrame, IsSeal, IsTaken, length, length-append}
+use proofs.Vocabulary.{List, Message, None, opening_history, Partial, refl, Says, says_next, says_none, SaysNext}
+use proofs.Vocabulary.{Sealed, Some, Stand, StillHas, subst, sym, take, take_at, Takes, Unsealed, Whole, [], ℕ, ◌++◌}
+use proofs.Vocabulary.{◌<◌, ◌∙◌, ◌∷◌, ◌≡◌, ◌≢◌, ◌≤◌, ◌⊎◌}
 use Rattle.gu_message.specs.Finding.{value_of}
-use Rattle.hex.specs.Hex.{encode_lower}
-use Rattle.gu_journal.specs.Journal.{IsOneFrame, IsHead, IsSeal, Says, says_none, says_next, IsJournal, IsGroupBehind}
-use Rattle.gu_journal.specs.Journal.{head_alone, group_more}
-use Rattle.gu_journal.specs.Taking.{AddsNext, Takes, SaysNext, IsTaken}
-use Rattle.gu_journal.specs.declared.replay.Stand.{Stand}
-use Rattle.gu_journal.specs.declared.replay.Stand.TheVariants.{Fresh, Sealed, Unsealed}
-use Rattle.gu_journal.proofs.Going.{adds_of, front_frame, garbled_len}
+use Rattle.std.proofs.lemmas.List.{take-append-le}
 
 -- Behind the bytes that were taken, the others are frames whose messages are taken in turn, up to the
 -- head or a seal, behind which all is said.
@@ -33,18 +21,13 @@ pub data Leads (t : House) (pin : List ℕ) (all : List Entry) : List ℕ → St
       → IsOneFrame frame m → Takes t pin taken s h m next new
       → Leads t pin all (taken ++ frame) next new rest → Leads t pin all taken s h (frame ++ rest)
 
-sealed_behind : Sealed ≢ Fresh
-sealed_behind e = cc
-
-unsealed_behind : Unsealed ≢ Fresh
-unsealed_behind e = cc
-
 -- ---- histories
 
 -- what begins with a history
-pub begins_on : (a b c : List Entry) → BeginsBy b a → BeginsBy c b → BeginsBy c a
-begins_on a b c one two =
-    (one.0 ++ two.0, two.1 ∙ ap (λ (l : List Entry). l ++ two.0) one.1 ∙ append_assoc a one.0 two.0)
+pub begins_on : {A : Type 0} (a b c : List A) → ((r : List A) × (b ≡ a ++ r)) → ((r : List A) × (c ≡ b ++ r))
+    → (r : List A) × (c ≡ a ++ r)
+begins_on {A} a b c one two =
+    (one.0 ++ two.0, two.1 ∙ ap (λ (l : List A). l ++ two.0) one.1 ∙ append_assoc a one.0 two.0)
 
 pub says_begins : (t : House) (h : List Entry) (bytes : List ℕ) (new : List Entry) → Says t h bytes new
     → BeginsBy new h
@@ -62,14 +45,12 @@ frame_some frame m one = let some : 21 ≤ length frame = frame_len frame one.0 
 takes_next : (t : House) (pin taken : List ℕ) (s : Stand) (h new : List Entry) (m : Message) → s ≢ Fresh
     → SaysNext t h new m → Takes t pin taken s h m Unsealed new
 takes_next t pin taken Fresh h new m behind next = absurd (behind refl)
-takes_next t pin taken Sealed h new m behind next = next
-takes_next t pin taken Unsealed h new m behind next = next
+takes_next t pin taken _ h new m behind next = next
 
 takes_seal : (t : House) (pin taken : List ℕ) (s : Stand) (h : List Entry) (m : Message) → s ≢ Fresh
     → IsSeal t taken h m → Takes t pin taken s h m Sealed h
 takes_seal t pin taken Fresh h m behind seal = absurd (behind refl)
-takes_seal t pin taken Sealed h m behind seal = (seal, refl)
-takes_seal t pin taken Unsealed h m behind seal = (seal, refl)
+takes_seal t pin taken _ h m behind seal = (seal, refl)
 
 -- what says entries, and a whole journal
 says_leads : (t : House) (pin : List ℕ) (all : List Entry) (bytes : List ℕ) (h : List Entry) (entries : List ℕ)
@@ -77,17 +58,14 @@ says_leads : (t : House) (pin : List ℕ) (all : List Entry) (bytes : List ℕ) 
     → Says t h entries new → (rest : List ℕ)
     → ((s : Stand) → s ≢ Fresh → Leads t pin all (bytes ++ entries) s new rest)
     → Leads t pin all bytes Sealed h (entries ++ rest)
-says_leads t pin all bytes h _ _ says_none rest behind = subst (λ (b : List ℕ). Leads t pin all b Sealed h rest)
-    (append-nil bytes) (behind Sealed sealed_behind)
+says_leads t pin all bytes h _ _ says_none rest behind = rw append-nil at (behind Sealed (λ e. cc))
 says_leads t pin all bytes h _ _ (says_next entries frame new e m says one next) rest behind =
     let more = new ++ e ∷ [] in
     let on : (s : Stand) → s ≢ Fresh → Leads t pin all (bytes ++ entries) s new (frame ++ rest) = λ s some.
     leads_on (bytes ++ entries) frame rest s Unsealed new more m one
     (takes_next t pin (bytes ++ entries) s new more m some (e, next, refl))
-    (subst (λ (b : List ℕ). Leads t pin all b Unsealed more rest) (sym (append_assoc bytes entries frame))
-    (behind Unsealed unsealed_behind)) in
-    subst (λ (l : List ℕ). Leads t pin all bytes Sealed h l) (sym (append_assoc entries frame rest))
-    (says_leads t pin all bytes h entries new says (frame ++ rest) on)
+    (rw append_assoc (behind Unsealed (λ e. cc))) in
+    rw append_assoc (says_leads t pin all bytes h entries new says (frame ++ rest) on)
 
 journal_leads : (t : House) (pin : List ℕ) (all : List Entry) (bytes : List ℕ) (h : List Entry)
     → IsJournal t pin bytes h → (rest : List ℕ)
@@ -99,16 +77,12 @@ journal_leads t pin all _ _ (group_more bytes entries frame h new m journal says
     let on : (s : Stand) → s ≢ Fresh → Leads t pin all (bytes ++ entries) s new (frame ++ rest) = λ s some.
     leads_on (bytes ++ entries) frame rest s Sealed new new m one
     (takes_seal t pin (bytes ++ entries) s new m some seal) behind in
-    let whole = journal_leads t pin all bytes h journal (entries ++ (frame ++ rest))
-    (says_leads t pin all bytes h entries new says (frame ++ rest) on) in
-    subst (λ (l : List ℕ). Leads t pin all [] Fresh (opening_history t) l)
-    (sym (append_assoc (bytes ++ entries) frame rest ∙ append_assoc bytes entries (frame ++ rest))) whole
+    simp append_assoc (journal_leads t pin all bytes h journal (entries ++ (frame ++ rest))
+    (says_leads t pin all bytes h entries new says (frame ++ rest) on))
 
 pub from_front : (t : House) (pin bytes : List ℕ) (h : List Entry) → IsJournal t pin bytes h
     → Leads t pin h [] Fresh (opening_history t) bytes
-from_front t pin bytes h journal =
-    subst (λ (l : List ℕ). Leads t pin h [] Fresh (opening_history t) l) (append-nil bytes)
-    (journal_leads t pin h bytes h journal [] (leads_end bytes))
+from_front t pin bytes h journal = rw append-nil at (journal_leads t pin h bytes h journal [] (leads_end bytes))
 
 -- ---- what is taken is determined
 
@@ -116,13 +90,7 @@ from_front t pin bytes h journal =
 same_next : (t : House) (h new other : List Entry) (means : Inbound) → AddsNext t h new means → AddsNext t h other means
     → new ≡ other
 same_next t h new other (inbound.Call firm trade id command) a b = cc
-same_next t h new other (inbound.Logon heartbeat reset) a b = absurd a
-same_next t h new other inbound.Heartbeat a b = absurd a
-same_next t h new other (inbound.TestRequest id) a b = absurd a
-same_next t h new other (inbound.ResendRequest from to) a b = absurd a
-same_next t h new other inbound.Reject a b = absurd a
-same_next t h new other (inbound.SequenceReset gap_fill next) a b = absurd a
-same_next t h new other inbound.Logout a b = absurd a
+same_next t h new other _ a b = absurd a
 
 next_one : (t : House) (h new other : List Entry) (m : Message) → SaysNext t h new m → SaysNext t h other m
     → new ≡ other
@@ -133,34 +101,18 @@ next_one t h new other m a b =
 -- a seal is no entry
 no_seal_next : (t : House) (taken : List ℕ) (h new : List Entry) (m : Message) → IsSeal t taken h m → SaysNext t h new m
     → ⊥
-no_seal_next t taken h new m seal next = apart seal.meaning next.1.meaning
-  where
-    apart : meaning_of t.house m ≡ Ok inbound.Heartbeat → meaning_of t.house m ≡ Ok
-        (inbound.Call next.0.firm next.1.trade next.0.id next.0.command) → ⊥
-    apart a b = cc
+no_seal_next t taken h new m seal next = cc (seal.meaning, next.1.meaning)
 
 pub takes_one : (t : House) (pin taken : List ℕ) (s next other : Stand) (h new more : List Entry) (m : Message)
     → Takes t pin taken s h m next new
     → Takes t pin taken s h m other more → (next ≡ other) × (new ≡ more)
-takes_one t pin taken Fresh Fresh other h new more m a b = absurd a
-takes_one t pin taken Fresh Unsealed other h new more m a b = absurd a
-takes_one t pin taken Fresh Sealed Fresh h new more m a b = absurd b
-takes_one t pin taken Fresh Sealed Unsealed h new more m a b = absurd b
 takes_one t pin taken Fresh Sealed Sealed h new more m a b = (refl, a.1 ∙ sym b.1)
-takes_one t pin taken Sealed Fresh other h new more m a b = absurd a
-takes_one t pin taken Sealed Sealed Fresh h new more m a b = absurd b
-takes_one t pin taken Sealed Sealed Sealed h new more m a b = (refl, a.1 ∙ sym b.1)
-takes_one t pin taken Sealed Sealed Unsealed h new more m a b = absurd (no_seal_next t taken h more m a.0 b)
-takes_one t pin taken Sealed Unsealed Fresh h new more m a b = absurd b
-takes_one t pin taken Sealed Unsealed Sealed h new more m a b = absurd (no_seal_next t taken h new m b.0 a)
-takes_one t pin taken Sealed Unsealed Unsealed h new more m a b = (refl, next_one t h new more m a b)
-takes_one t pin taken Unsealed Fresh other h new more m a b = absurd a
-takes_one t pin taken Unsealed Sealed Fresh h new more m a b = absurd b
-takes_one t pin taken Unsealed Sealed Sealed h new more m a b = (refl, a.1 ∙ sym b.1)
-takes_one t pin taken Unsealed Sealed Unsealed h new more m a b = absurd (no_seal_next t taken h more m a.0 b)
-takes_one t pin taken Unsealed Unsealed Fresh h new more m a b = absurd b
-takes_one t pin taken Unsealed Unsealed Sealed h new more m a b = absurd (no_seal_next t taken h new m b.0 a)
-takes_one t pin taken Unsealed Unsealed Unsealed h new more m a b = (refl, next_one t h new more m a b)
+takes_one t pin taken s Sealed Sealed h new more m a b = (refl, a.1 ∙ sym b.1)
+takes_one t pin taken Fresh _ _ h new more m a b = absurd search
+takes_one t pin taken s Sealed Unsealed h new more m a b = absurd (no_seal_next t taken h more m a.0 b)
+takes_one t pin taken s Unsealed Sealed h new more m a b = absurd (no_seal_next t taken h new m b.0 a)
+takes_one t pin taken s Unsealed Unsealed h new more m a b = (refl, next_one t h new more m a b)
+takes_one t pin taken s _ _ h new more m a b = absurd search
 
 -- ---- one step
 
@@ -179,23 +131,14 @@ headed : (t : House) (pin bytes : List ℕ) (h : List Entry) → IsJournal t pin
     → (m : Message) × (len : ℕ) × IsHead t pin m × IsFrontOf (bytes ++ more) (Whole m len)
 headed t pin _ _ (head_alone frame m one head) more = (m, length frame, head, frame_front frame more m one)
 headed t pin _ _ (group_more bytes entries frame h new m journal says one seal) more =
-    let on = headed t pin bytes h journal (entries ++ (frame ++ more)) in (
-      on.0,
-      on.1,
-      on.2,
-      subst (λ (b : List ℕ). IsFrontOf b (Whole on.0 on.1))
-          (sym (append_assoc (bytes ++ entries) frame more ∙ append_assoc bytes entries (frame ++ more))) on.3,
-    )
+    let on = headed t pin bytes h journal (entries ++ (frame ++ more)) in
+    (on.0, on.1, on.2, simp append_assoc on.3)
 
 -- which says all that a journal has of the house file
 repinned : (t : House) (other pin bytes : List ℕ) (h : List Entry) → encode_lower other ≡ encode_lower pin
     → IsJournal t other bytes h → IsJournal t pin bytes h
-repinned t other pin _ _ same (head_alone frame m one head) = head_alone frame m one (record {
-  meaning = head.meaning;
-  number = head.number;
-  version = head.version;
-  digest = head.digest ∙ ap Some same;
-})
+repinned t other pin _ _ same (head_alone frame m one head) =
+    head_alone frame m one (assumption (head.digest ∙ ap Some same))
 repinned t other pin _ _ same (group_more bytes entries frame h new m journal says one seal) =
     group_more bytes entries frame h new m (repinned t other pin bytes h same journal) says one seal
 
@@ -210,11 +153,8 @@ one_pin t other pin journal bytes k h is here more rest whole =
     let message : one.0 ≡ two.0 = cc in
     let digest : value_of tag.text two.0 ≡ Some (encode_lower other) =
     subst (λ (m : Message). value_of tag.text m ≡ Some (encode_lower other)) message one.2.digest in
-    let text : encode_lower other ≡ encode_lower pin = inj_some (sym digest ∙ two.2.digest) in
+    let text : encode_lower other ≡ encode_lower pin = cc (digest, two.2.digest) in
     repinned t other pin journal k text is
-  where
-    inj_some : {a b : List ℕ} → Some a ≡ Some b → a ≡ b
-    inj_some e = cc
 
 -- a frame that is taken next
 record Next (t : House) (pin : List ℕ) (all : List Entry) (taken : List ℕ) (s : Stand) (h : List Entry)
@@ -265,12 +205,12 @@ pub record Stepped (t : House) (pin : List ℕ) (all : List Entry) (taken : List
 
 module _ (t : House) (pin : List ℕ) (all : List Entry) (taken : List ℕ) (s : Stand) (h : List Entry)
     (rest bytes more later : List ℕ) (leads : Leads t pin all taken s h rest) (is : rest ++ more ≡ bytes ++ later) where
+  parted : (n : Next t pin all taken s h rest) → n.frame ++ (n.later ++ more) ≡ bytes ++ later
+  parted n = rw (n.parts, append_assoc) at is
+
   -- the frame that is taken next stands there
   frame_there : (n : Next t pin all taken s h rest) → IsFrontOf (bytes ++ later) (Whole n.m (length n.frame))
-  frame_there n =
-      subst (λ (b : List ℕ). IsFrontOf b (Whole n.m (length n.frame)))
-      (sym (append_assoc n.frame n.later more) ∙ ap (λ (r : List ℕ). r ++ more) (sym n.parts) ∙ is)
-      (frame_front n.frame (n.later ++ more) n.m n.one)
+  frame_there n = rw (parted n) at (frame_front n.frame (n.later ++ more) n.m n.one)
 
   -- a frame that stands there is the one that is taken next, where anything is left
   pub step : (m : Message) (len : ℕ) → IsFrontOf bytes (Whole m len)
@@ -282,20 +222,18 @@ module _ (t : House) (pin : List ℕ) (all : List Entry) (taken : List ℕ) (s :
         begins_stays bytes later (record { fields = Some m; len = len }) front in
         let same = fronts (bytes ++ later) (Whole m len) (Whole n.m (length n.frame)) there (frame_there n) in
         let message : m ≡ n.m = cc in
-        let size : len ≡ length n.frame = cc in
-        let whole : n.frame ++ (n.later ++ more) ≡ bytes ++ later =
-        sym (append_assoc n.frame n.later more) ∙ ap (λ (r : List ℕ). r ++ more) (sym n.parts) ∙ is in
+        let size : length n.frame ≡ len = cc in
         let here : n.frame ≡ take len bytes =
-        sym (take_at n.frame (n.later ++ more) len (sym size)) ∙ ap (take len) whole
+        sym (take_at n.frame (n.later ++ more) len size) ∙ ap (take len) (parted n)
         ∙ take-append-le len bytes later front.1.within in
         inr (record {
           next = n.next;
           new = n.new;
           rest = n.later;
-          takes = subst (λ (x : Message). Takes t pin taken s h x n.next n.new) (sym message) n.takes;
-          leads = subst (λ (f : List ℕ). Leads t pin all (taken ++ f) n.next n.new n.later) here n.leads;
-          cut = n.parts ∙ ap (λ (f : List ℕ). f ++ n.later) here;
-          left = sym (drop_at n.frame (n.later ++ more) len (sym size)) ∙ ap (drop len) whole
+          takes = rw message n.takes;
+          leads = rw here at n.leads;
+          cut = rw here at n.parts;
+          left = sym (drop_at n.frame (n.later ++ more) len size) ∙ ap (drop len) (parted n)
               ∙ drop-append-le len bytes later front.1.within;
         })
   ]
@@ -304,14 +242,7 @@ module _ (t : House) (pin : List ℕ) (all : List Entry) (taken : List ℕ) (s :
 module _ (t : House) (pin : List ℕ) (all : List Entry) (taken : List ℕ) (s : Stand) (h : List Entry)
     (rest bytes later : List ℕ) (leads : Leads t pin all taken s h rest) (is : rest ++ [] ≡ bytes ++ later) where
   some_left : rest ≡ [] → 0 < length bytes → ⊥
-  some_left none some = absurd (omega (
-    arith,
-    some,
-    ap length is,
-    ap length none,
-    length-append rest [],
-    length-append bytes later,
-  ))
+  some_left none some = absurd (omega (arith, ap length is, ap length none, length-append {A = ℕ}))
 
   no_other : (x : Front) → IsFrontOf (bytes ++ later) x → 0 < length bytes
       → ((m : Message) (len : ℕ) → x ≡ Whole m len → ⊥) → ⊥
@@ -369,23 +300,16 @@ module _ (t : House) (pin : List ℕ) (all : List Entry) (journal more later : L
   left_step taken frame rest s next h new m one takes l =
       elim (step t pin all taken s h l.left (frame ++ rest) more later l.leads l.parts m (length frame)
       (frame_front frame rest m one)) [
-        | inl e ↦ inl (record {
-          stands = e.stands;
-          whole = l.whole ∙ ap (λ (b : List ℕ). taken ++ b) e.none ∙ append-nil taken;
-          said = e.said;
-        })
+        | inl e ↦ inl (record { stands = e.stands; whole = rw (e.none, append-nil) at l.whole; said = e.said })
         | inr st ↦
             let same = takes_one t pin taken s st.next next h st.new new m st.takes takes in
             let here : take (length frame) (frame ++ rest) ≡ frame = take_at frame rest (length frame) refl in
-            let behind : drop (length frame) (frame ++ rest) ≡ rest = drop_at frame rest (length frame) refl in
-            let cut : l.left ≡ frame ++ st.rest = st.cut ∙ ap (λ (f : List ℕ). f ++ st.rest) here in
+            let cut : l.left ≡ frame ++ st.rest = rw here at st.cut in
             inr (record {
               left = st.rest;
-              leads = subst (λ (k : List Entry). Leads t pin all (taken ++ frame) next k st.rest) same.1
-                  (subst (λ (x : Stand). Leads t pin all (taken ++ frame) x st.new st.rest) same.0
-                  (subst (λ (f : List ℕ). Leads t pin all (taken ++ f) st.next st.new st.rest) here st.leads));
-              whole = l.whole ∙ ap (λ (b : List ℕ). taken ++ b) cut ∙ sym (append_assoc taken frame st.rest);
-              parts = st.left ∙ ap (λ (x : List ℕ). x ++ later) behind;
+              leads = rw (here, same.0, same.1) at st.leads;
+              whole = rw (append_assoc, ← cut) l.whole;
+              parts = rw (drop_at frame rest (length frame) refl) at st.left;
             })
       ]
 
@@ -400,30 +324,23 @@ module _ (t : House) (pin : List ℕ) (all : List Entry) (journal more later : L
   no_entries : (bytes entries rest : List ℕ) (h new : List Entry) → Says t h entries new
       → (on : LeftOn bytes entries new rest) → EndsAt all journal (bytes ++ entries) on.stand new
       → EndsAt all journal bytes Sealed h
-  no_entries bytes _ rest h _ says_none on e = record {
-    stands = refl;
-    whole = e.whole ∙ append-nil bytes;
-    said = e.said;
-  }
+  no_entries bytes _ rest h _ says_none on e =
+      record { stands = refl; whole = rw append-nil at e.whole; said = e.said }
   no_entries bytes _ rest h _ (says_next entries frame new x m says one next) on e =
-      absurd (apart (on.unsealed (omega (arith, frame_some frame m one, length-append entries frame))) e.stands)
-    where
-      apart : on.stand ≡ Unsealed → on.stand ≡ Sealed → ⊥
-      apart a b = cc
+      let stands = on.unsealed (omega (arith, frame_some frame m one, length-append entries frame)) in
+      cc (stands, e.stands)
 
   left_says : (bytes : List ℕ) (h : List Entry) (entries : List ℕ) (new : List Entry) → Says t h entries new
       → (rest : List ℕ) → LeftOf t pin all journal bytes Sealed h (entries ++ rest) more later
       → EndsAt all journal bytes Sealed h ⊎ LeftOn bytes entries new rest
   left_says bytes h _ _ says_none rest l = inr (record {
     stand = Sealed;
-    behind = sealed_behind;
+    behind = λ e. cc;
     unsealed = λ some. absurd (omega (arith, some));
-    left_of = subst (λ (b : List ℕ). LeftOf t pin all journal b Sealed h rest more later) (sym (append-nil bytes)) l;
+    left_of = rw append-nil l;
   })
   left_says bytes h _ _ (says_next entries frame new e m says one next) rest l =
-      elim (left_says bytes h entries new says (frame ++ rest)
-      (subst (λ (r : List ℕ). LeftOf t pin all journal bytes Sealed h r more later)
-      (append_assoc entries frame rest) l)) [
+      elim (left_says bytes h entries new says (frame ++ rest) (rw append_assoc at l)) [
         | inl ends ↦ inl ends
         | inr before ↦
             let takes = takes_next t pin (bytes ++ entries) before.stand new (new ++ e ∷ []) m before.behind
@@ -433,10 +350,9 @@ module _ (t : House) (pin : List ℕ) (all : List Entry) (journal more later : L
               | inl ends ↦ inl (no_entries bytes entries (frame ++ rest) h new says before ends)
               | inr on ↦ inr (record {
                 stand = Unsealed;
-                behind = unsealed_behind;
+                behind = λ e. cc;
                 unsealed = λ some. refl;
-                left_of = subst (λ (b : List ℕ). LeftOf t pin all journal b Unsealed (new ++ e ∷ []) rest more later)
-                    (append_assoc bytes entries frame) on;
+                left_of = rw append_assoc at on;
               })
             ]
       ]
@@ -469,11 +385,7 @@ module _ (t : House) (pin : List ℕ) (all : List Entry) (journal more later : L
   nested_on : (bytes entries frame : List ℕ) (h new : List Entry) → Says t h entries new
       → Nested all journal bytes h → Nested all journal ((bytes ++ entries) ++ frame) new
   nested_on bytes entries frame h new says n = record {
-    within = (
-      n.within.0 ++ (entries ++ frame),
-      append_assoc bytes entries frame ∙ ap (λ (b : List ℕ). b ++ (entries ++ frame)) n.within.1
-          ∙ append_assoc journal n.within.0 (entries ++ frame),
-    );
+    within = (n.within.0 ++ (entries ++ frame), rw (append_assoc, n.within.1, append_assoc) refl);
     begins = begins_on all h new n.begins (says_begins t h entries new says);
   }
 
@@ -485,25 +397,18 @@ module _ (t : House) (pin : List ℕ) (all : List Entry) (journal more later : L
   left_journal _ _ (head_alone frame m one head) rest l =
       elim (left_step [] frame rest Fresh Sealed (opening_history t) (opening_history t) m one
       ((λ is. head), refl) l) [
-        | inl ends ↦ absurd (sealed_behind (sym ends.stands))
+        | inl ends ↦ cc ends.stands
         | inr on ↦ inr on
       ]
   left_journal _ _ (group_more bytes entries frame h new m is says one seal) rest l =
-      let size : length bytes < length ((bytes ++ entries) ++ frame) = omega (
-        arith,
-        frame_some frame m one,
-        length-append (bytes ++ entries) frame,
-        length-append bytes entries,
-      ) in
-      elim (left_journal bytes h is (entries ++ (frame ++ rest))
-      (subst (λ (r : List ℕ). LeftOf t pin all journal [] Fresh (opening_history t) r more later)
-      (append_assoc (bytes ++ entries) frame rest ∙ append_assoc bytes entries (frame ++ rest)) l)) [
+      let size : length bytes < length ((bytes ++ entries) ++ frame) =
+      omega (arith, frame_some frame m one, length-append {A = ℕ}) in
+      elim (left_journal bytes h is (entries ++ (frame ++ rest)) (simp append_assoc at l)) [
         | inl n ↦ inl (nested_on bytes entries frame h new says n.0, omega (arith, n.1, size))
         | inr before ↦ elim (left_group bytes entries frame h new m says one seal rest before) [
-          | inl ends ↦ inl (
-            nested_on bytes entries frame h new says (nested_at bytes h ends),
-            omega (arith, size, ap length ends.whole),
-          )
+          | inl ends ↦
+              let within = nested_on bytes entries frame h new says (nested_at bytes h ends) in
+              inl (within, omega (arith, ap length ends.whole))
           | inr on ↦ inr on
         ]
       ]
@@ -512,12 +417,8 @@ module _ (t : House) (pin : List ℕ) (all : List Entry) (journal more later : L
 first_left : (t : House) (pin journal : List ℕ) (all : List Entry) (there more later : List ℕ)
     → IsJournal t pin journal all → journal ++ more ≡ there ++ later
     → LeftOf t pin all journal [] Fresh (opening_history t) there more later
-first_left t pin journal all there more later is parts = record {
-  left = journal;
-  leads = from_front t pin journal all is;
-  whole = refl;
-  parts = parts;
-}
+first_left t pin journal all there more later is parts =
+    record { left = journal; leads = from_front t pin journal all is; whole = refl; parts = parts }
 
 -- the sealed part of the bytes that were taken has the other journal, which is shorter than they are
 abbrev pub NestsIn : (t : House) (pin : List ℕ) (all : List Entry) (journal taken : List ℕ) (s : Stand)
@@ -535,8 +436,7 @@ pub left_taken : (t : House) (pin journal : List ℕ) (all : List Entry) (taken 
 left_taken t pin journal all taken Fresh h stands is rest more later parts =
     let l = first_left t pin journal all rest more later is
     (parts ∙ ap (λ (b : List ℕ). (b ++ rest) ++ later) stands.0) in
-    inr (subst (λ (k : List Entry). LeftOf t pin all journal taken Fresh k rest more later) (sym stands.1)
-    (subst (λ (b : List ℕ). LeftOf t pin all journal b Fresh (opening_history t) rest more later) (sym stands.0) l))
+    inr (rw (stands.1, stands.0) l)
 left_taken t pin journal all taken Sealed h stands is rest more later parts =
     left_journal t pin all journal more later taken h stands rest
     (first_left t pin journal all (taken ++ rest) more later is parts)
@@ -552,14 +452,10 @@ left_taken t pin journal all taken Unsealed h stands is rest more later parts =
       | inr before ↦ elim (left_says t pin all journal more later stands.bytes stands.h stands.entries h
           stands.says rest
           before) [
-            | inl ends ↦ inl (
-              nested_at t pin all journal more later stands.bytes stands.h ends,
-              omega (arith, size, ap length ends.whole),
-            )
-            | inr on ↦ inr (subst (λ (b : List ℕ). LeftOf t pin all journal b Unsealed h rest more later)
-                (sym stands.parts)
-                (subst (λ (x : Stand). LeftOf t pin all journal (stands.bytes ++ stands.entries) x h rest more later)
-                (on.unsealed stands.some) on.left_of))
+            | inl ends ↦
+                let within = nested_at t pin all journal more later stands.bytes stands.h ends in
+                inl (within, omega (arith, ap length ends.whole))
+            | inr on ↦ inr (rw (stands.parts, ← on.unsealed stands.some) on.left_of)
           ]
     ]
 
@@ -575,20 +471,13 @@ longest t pin journal all taken h is rest more begun parts s stands =
     elim (left_taken t pin journal all taken s h stands is rest more [] (parts ∙ sym (append-nil (taken ++ rest)))) [
       | inl n ↦ inl n
       | inr l ↦ elim (opened t pin all taken s h l.left l.leads) [
-        | inl e ↦ inr (record {
-          stands = e.stands;
-          whole = l.whole ∙ ap (λ (b : List ℕ). taken ++ b) e.none ∙ append-nil taken;
-          said = e.said;
-        })
+        | inl e ↦ inr (record { stands = e.stands; whole = rw (e.none, append-nil) at l.whole; said = e.said })
         | inr n ↦
             let there = frame_there t pin all taken s h l.left rest more [] l.leads l.parts n in
-            absurd (apart n.m (length n.frame) (fronts (rest ++ []) (Whole n.m (length n.frame)) Partial there
-            (subst IsFront (sym (append-nil rest)) begun)))
+            let begins : IsFrontOf (rest ++ []) Partial = rw append-nil begun in
+            cc (fronts (rest ++ []) (Whole n.m (length n.frame)) Partial there begins)
       ]
     ]
-  where
-    apart : (m : Message) (n : ℕ) → Whole m n ≡ Partial → ⊥
-    apart m n e = cc
 
 -- A journal at the front of one that has a group more than another is all of it, or ends within that.
 pub all_or_before : (t : House) (pin journal : List ℕ) (all : List Entry) (bytes group : List ℕ) (h new : List Entry)
@@ -607,20 +496,10 @@ all_or_before t pin journal all bytes group h new is before g more parts =
           (subst (λ (r : List ℕ). LeftOf t pin all journal bytes Sealed h r more []) there l)) [
             | inl ends ↦ inl (nested_at t pin all journal more [] bytes h ends)
             | inr on ↦ elim (opened t pin all ((bytes ++ g.entries) ++ g.frame) Sealed new on.left on.leads) [
-              | inl e ↦ inr (record {
-                stands = refl;
-                whole = on.whole ∙ ap (λ (b : List ℕ). ((bytes ++ g.entries) ++ g.frame) ++ b) e.none
-                    ∙ append-nil ((bytes ++ g.entries) ++ g.frame) ∙ whole;
-                said = e.said;
-              })
-              | inr n ↦ absurd (omega (
-                arith,
-                frame_some n.frame n.m n.one,
-                ap length n.parts,
-                ap length on.parts,
-                length-append on.left more,
-                length-append n.frame n.later,
-              ))
+              | inl e ↦
+                  inr (record { stands = refl; whole = rw (e.none, append-nil, whole) at on.whole; said = e.said })
+              | inr n ↦ absurd (omega
+                  (arith, frame_some n.frame n.m n.one, ap length n.parts, ap length on.parts, length-append {A = ℕ}))
             ]
           ]
     ]

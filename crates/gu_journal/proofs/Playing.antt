@@ -1,26 +1,84 @@
 -- What the bytes of a journal say, and what a batch answers to them.
-use Rattle.std.proofs.Common.{◌≡◌, ℕ, suc, ◌+◌, List, [], ◌∷◌, ◌++◌, length, Some, refl, sym, ◌∙◌, ap, subst, arith}
-use Rattle.std.proofs.Common.{append_assoc, length-append}
-use Rattle.std.proofs.lemmas.List.{append-nil}
-use Rattle.std.specs.Prelude.{Result}
-use Rattle.gu_base.specs.House.{House}
-use Rattle.gu_base.specs.Answers.{answer_to, after_by}
-use Rattle.gu_base.specs.Runs.{call_of, opening_history}
-use Rattle.gu_base.specs.declared.entry.Entry.{Entry}
-use Rattle.gu_base.specs.declared.entry.Answer.{Answer}
-use Rattle.gu_codec.specs.Messages.{Message, Seen, End, Clean, Ends, Splits, messages_in}
-use Rattle.gu_codec.specs.Readings.{frames_of}
-use Rattle.gu_codec.proofs.Readings.{one_stream}
-use Rattle.gu_message.specs.Meaning.{meaning_of}
-use Rattle.gu_message.specs.Reply.{Reply, answer_reply, message_of}
-use Rattle.gu_message.specs.declared.fault.Reject.{Reject}
-use Rattle.gu_message.specs.declared.inbound.Inbound.{Inbound}
-use Rattle.gu_batch.specs.Output.{Progress, start, stamp, sent, history_by, replies_by, answers_to, progress_after}
-use Rattle.gu_batch.specs.Output.{answers_along, progress_along, answers_of, history_of}
-use Rattle.gu_journal.specs.Accepting.{AcceptsEach, accepts_none, accepts_next}
-use Rattle.gu_journal.specs.Journal.{IsOneFrame, IsHead, IsNext, IsSeal, Says, says_none, says_next}
-use Rattle.gu_journal.specs.Journal.{IsJournal, head_alone, group_more}
-use Rattle.gu_journal.proofs.Frames.{splits_push, splits_then, messages_push}
+use Rattle.gu_base.specs.{Answers.after_by, declared.entry.Answer.Answer}
+use Rattle.gu_batch.specs.Output.{answers_along, answers_of, answers_to, history_by, Progress, progress_after}
+use Rattle.gu_batch.specs.Output.{progress_along, replies_by, sent, stamp, start}
+use Rattle.gu_codec.proofs.{Fronts.opening_broken, ReadBack.{body_stands, fields_read}, Readings.one_stream}
+use Rattle.gu_codec.specs.{Grammar.{fits, texts}, Messages.{Begins, Broken, Clean, End, Ends, messages_in, Seen}}
+use Rattle.gu_codec.specs.{Messages.Splits, Readings.frames_of, Writing.{frame_text, message_text}}
+use Rattle.gu_journal.proofs.Vocabulary.{answer_to, ap, append-nil, append_assoc, arith, begins_stays, call_of, drop}
+use Rattle.gu_journal.proofs.Vocabulary.{drop-append-le, Entry, fields_text, group_more, head_alone, history_of, House}
+use Rattle.gu_journal.proofs.Vocabulary.{Inbound, IsHead, IsJournal, IsNext, IsOneFrame, IsSeal, IsWritable, length}
+use Rattle.gu_journal.proofs.Vocabulary.{length-append, length-drop, List, meaning_of, Message, nat_tests, None}
+use Rattle.gu_journal.proofs.Vocabulary.{opening, opening_history, Option, refl, Reject, Result, Says, says_next}
+use Rattle.gu_journal.proofs.Vocabulary.{says_none, Some, subst, suc, sym, [], ℕ, ◌++◌, ◌+◌, ◌∙◌, ◌∷◌, ◌≡◌, ◌≢◌}
+use Rattle.gu_journal.specs.Accepting.{accepts_next, accepts_none, AcceptsEach}
+use Rattle.gu_message.specs.Reply.{answer_reply, message_of, Reply}
+use Rattle.std.proofs.lemmas.List.{drop_all}
+use Rattle.std.specs.List.{common_prefix_len}
+
+-- ---- frames one after the other, and what stands behind them
+
+-- ---- the end of a stream
+
+pub shut_ends : (offset gate : ℕ) (more : List ℕ) → gate ≢ 56 → Ends offset (gate ∷ more) (Some (Broken offset))
+shut_ends offset gate more shut =
+    let none : common_prefix_len fits (texts opening) (gate ∷ more) ≡ 0 = grind (arith, nat_tests) in
+    (0, omega arith, opening_broken (gate ∷ more) 0 none (omega arith) (λ e. absurd (omega (arith, e))))
+
+-- ---- one frame
+
+-- what is written of a message is one frame
+pub one_frame : (m : Message) → IsWritable m → IsOneFrame (message_text m) m
+unfolding message_text
+one_frame m ok =
+    let text = message_text m in
+    let w = body_stands (fields_text m) [] m (fields_read m ok.fields, ok.typed) ok.short in
+    let here : Begins (text ++ []) (record { fields = Some m; len = length text }) = (w.count, w.has, w.good) in
+    rw append-nil at here
+
+-- and begins with `8`
+pub first_eight : (m : Message) → (rest : List ℕ) × (message_text m ≡ 56 ∷ rest)
+unfolding message_text frame_text
+first_eight m = (drop 1 (frame_text (fields_text m)), refl)
+
+-- ---- frames one after the other
+
+-- one frame more
+pub splits_push : (fs : List Seen) (offset : ℕ) (front piece : List ℕ) (f : Seen) → Splits offset front fs (Some Clean)
+    → Begins piece f → f.len ≡ length piece
+    → Splits offset (front ++ piece) (fs ++ f ∷ []) (Some Clean)
+splits_push [] offset front piece f none here all = rw none (here, drop_all f.len piece (omega (arith, all)))
+splits_push (g ∷ gs) offset front piece f h here all =
+    let later = splits_push gs (offset + g.len) (drop g.len front) piece f h.1 here all in
+    (begins_stays front piece g h.0, rw (drop-append-le g.len front piece h.0.1.within) later)
+
+-- frames that are all of some bytes, with whatever ends them behind these
+pub splits_then : (fs : List Seen) (offset : ℕ) (front rest : List ℕ) (end : End) → Splits offset front fs (Some Clean)
+    → Ends (offset + length front) rest (Some end)
+    → Splits offset (front ++ rest) fs (Some end)
+splits_then [] offset front rest end none ends =
+    let none_len : offset + length front ≡ offset = omega (arith, ap length none) in
+    subst (λ (s : List ℕ). Splits offset (s ++ rest) [] (Some end)) (sym none)
+    (subst (λ (o : ℕ). Ends o rest (Some end)) none_len ends)
+splits_then (g ∷ gs) offset front rest end h ends =
+    let place : offset + length front ≡ offset + g.len + length (drop g.len front) =
+    omega (arith, length-drop g.len front, h.0.1.within) in
+    let later = splits_then gs (offset + g.len) (drop g.len front) rest end h.1
+    (subst (λ (o : ℕ). Ends o rest (Some end)) place ends) in
+    (begins_stays front rest g h.0, rw (drop-append-le g.len front rest h.0.1.within) later)
+
+-- the messages of one frame more
+pub messages_push : (fs : List Seen) (f : Seen) (m : Message) → f.fields ≡ Some m
+    → messages_in (fs ++ f ∷ []) ≡ messages_in fs ++ m ∷ []
+messages_push [] f m is =
+    ap (λ (p : Option Message). messages_in (record { fields = p; len = f.len } ∷ [])) is
+messages_push (g ∷ gs) f m is = go g.fields (messages_push gs f m is)
+  where
+    go : (o : Option Message) → messages_in (gs ++ f ∷ []) ≡ messages_in gs ++ m ∷ []
+        → messages_in (record { fields = o; len = g.len } ∷ (gs ++ f ∷ [])) ≡ messages_in
+        (record { fields = o; len = g.len } ∷ gs) ++ m ∷ []
+    go None later = later
+    go (Some n) later = ap (λ (ms : List Message). n ∷ ms) later
 
 -- a batch that has this house, this history, and has written that each of its entries is accepted
 record HasRead (t : House) (h : List Entry) (ms : List Message) (p : Progress) : Type 0 where
@@ -60,15 +118,11 @@ push t bytes frame h new m plays one continues =
     let f : Seen = record { fields = Some m; len = length frame } in
     let was = messages_in plays.frames in
     let more : messages_in (plays.frames ++ f ∷ []) ≡ was ++ m ∷ [] = messages_push plays.frames f m refl in
-    let along = ap (progress_along (start t)) more ∙ along_push (start t) was m in
-    let told = ap (answers_along (start t)) more ∙ answers_push (start t) was m in
     record {
       frames = plays.frames ++ f ∷ [];
       split = splits_push plays.frames 0 bytes frame f plays.split one refl;
-      is = subst (λ (p : Progress). HasRead t new (answers_along (start t) (messages_in (plays.frames ++ f ∷ []))) p)
-          (sym along)
-          (subst (λ (ms : List Message). HasRead t new ms (progress_after (progress_along (start t) was) m))
-          (sym told) (continues (progress_along (start t) was) (answers_along (start t) was) plays.is));
+      is = rw (more, along_push (start t) was m, answers_push (start t) was m)
+          (continues (progress_along (start t) was) (answers_along (start t) was) plays.is);
     }
 
 -- ---- how a message continues a history
@@ -96,12 +150,8 @@ continues_by : (t : House) (h new : List Entry) (m : Message) (r : Result Inboun
     → Continues t h m new
 unfolding progress_after answers_to
 continues_by t h new m r means goes told p ms is =
-    let here : p ≡ at t h (length ms) = λ i. record {
-      house = is.house i;
-      history = is.history i;
-      written =
-          is.written i;
-    } in
+    let here : p ≡ at t h (length ms) =
+    λ i. record { house = is.house i; history = is.history i; written = is.written i } in
     record {
       house = is.house;
       history = ap (λ (q : Progress). (progress_after q m).history) here
@@ -115,7 +165,7 @@ continues_by t h new m r means goes told p ms is =
 
 -- a message of the session says nothing, and isn't answered
 silent : (t : House) (h : List Entry) (ms : List Message) → AcceptsEach t h ms → AcceptsEach t h (ms ++ [])
-silent t h ms is = subst (AcceptsEach t h) (sym (append-nil ms)) is
+silent t h ms is = rw append-nil is
 
 head_continues : (t : House) (pin : List ℕ) (h : List Entry) (m : Message) → IsHead t pin m → Continues t h m h
 head_continues t pin h m is = continues_by t h h m _ is.meaning (λ w. refl) (silent t h)
@@ -134,24 +184,17 @@ next_continues t h e m is =
 
 says_plays : (t : House) (h : List Entry) (before bytes : List ℕ) (new : List Entry) → Plays t before h
     → Says t h bytes new → Plays t (before ++ bytes) new
-says_plays t h before _ _ plays says_none = subst (λ (b : List ℕ). Plays t b h) (sym (append-nil before)) plays
+says_plays t h before _ _ plays says_none = rw append-nil plays
 says_plays t h before _ _ plays (says_next bytes frame new e m says one next) =
-    subst (λ (b : List ℕ). Plays t b (new ++ e ∷ [])) (append_assoc before bytes frame)
-    (push t (before ++ bytes) frame new (new ++ e ∷ []) m (says_plays t h before bytes new plays says) one
+    rw append_assoc
+    at (push t (before ++ bytes) frame new (new ++ e ∷ []) m (says_plays t h before bytes new plays says) one
     (next_continues t new e m next))
 
 nothing_plays : (t : House) → Plays t [] (opening_history t)
-nothing_plays t = record {
-  frames = [];
-  split = refl;
-  is = record {
-    house = refl;
-    history = refl;
-    written =
-        refl;
-    accepts = accepts_none;
-  };
-}
+nothing_plays t =
+    let is : HasRead t (opening_history t) [] (start t) =
+    record { house = refl; history = refl; written = refl; accepts = accepts_none } in
+    record { frames = []; split = refl; is = is }
 
 journal_plays : (t : House) (pin bytes : List ℕ) (h : List Entry) → IsJournal t pin bytes h → Plays t bytes h
 journal_plays t pin _ _ (head_alone frame m one head) =
@@ -181,8 +224,7 @@ module _ (t : House) (pin bytes rest : List ℕ) (h : List Entry) (end : End) (j
   answers_are =
       let plays = journal_plays t pin bytes h journal in
       subst (λ (fs : List Seen). AcceptsEach t h (answers_along (start t) (messages_in fs)))
-      (read plays.frames plays.split)
-      plays.is.accepts
+      (read plays.frames plays.split) plays.is.accepts
 
 pub one_history : (t : House) (pin other bytes : List ℕ) (h k : List Entry) → IsJournal t pin bytes h
     → IsJournal t other bytes k → h ≡ k

@@ -1,19 +1,12 @@
 -- A piece of a file is read up to its first zero.
-use Rattle.std.proofs.Common.{◌≡◌, inl, inr, ℕ, zero, suc, ◌+◌, ◌-◌, ◌<◌, ◌≤◌, Bool, List, []}
-use Rattle.std.proofs.Common.{◌∷◌, ◌++◌, length}
-use Rattle.std.proofs.Common.{get_or, take, drop, refl, sym, ◌∙◌, ap, subst, arith, cond}
-use Rattle.std.proofs.Common.{length-append}
-use Rattle.std.specs.Prelude.{eqb, not, position, unwrap_or}
-use Rattle.std.specs.List.{position_or_len}
-use Rattle.std.proofs.lemmas.Bool.Decides.{nat_tests}
-use Rattle.std.proofs.lemmas.List.{drop-drop, drop-take, drop_at, length-drop, take_all}
-use Rattle.std.proofs.lemmas.List.Recursion.{is_position_or_len}
-use Rattle.std.proofs.lemmas.List.Sums.{prefix_len-le-length}
-use Rattle.std.proofs.Math.Seq.{take-append-add}
+use Rattle.gu_journal.proofs.Vocabulary.{Adds, ap, arith, Bool, cond, counted, counted_fits, drop, drop-drop, drop_at}
+use Rattle.gu_journal.proofs.Vocabulary.{end_of, eqb, Gains, get_or, Held, inl, inr, IsZeroAt, length, length-drop}
+use Rattle.gu_journal.proofs.Vocabulary.{List, nat_tests, not, position_or_len, refl, strange_len, suc, sym, take}
+use Rattle.gu_journal.proofs.Vocabulary.{take_all, unwrap_or, zero, [], ℕ, ◌++◌, ◌+◌, ◌-◌, ◌<◌, ◌∙◌, ◌∷◌, ◌≡◌, ◌≤◌}
+use Rattle.gu_store.proofs.Counted.{counted_ends, counted_none, counted_reads}
 use Rattle.sqlite_disk.specs.Disk.{Holds}
-use Rattle.gu_store.specs.Zeros.{counted, HasNoZero}
-use Rattle.gu_store.proofs.Counted.{counted_none, counted_fits, counted_ends, counted_reads}
-use Rattle.gu_journal.specs.Held.{Held, Adds, Gains, IsZeroAt, end_of, strange_len}
+use Rattle.std.proofs.{Common.position, lemmas.List.{drop-take, Recursion.is_position_or_len}}
+use Rattle.std.proofs.{lemmas.List.Sums.prefix_len-le-length, Math.Seq.take-append-add}
 
 -- the place of the first zero tells how many bytes stand before it
 zero_first : (b : ℕ) (bytes : List ℕ) → length (counted (b ∷ bytes)) ≡ cond (eqb b 0) 0 (1 + length (counted bytes))
@@ -54,9 +47,8 @@ passed_to taken n items now held held_is now_is n_is =
 
 -- what stands before the first zero is so many of the bytes
 pub take_counted : (bytes : List ℕ) → take (length (counted bytes)) bytes ≡ counted bytes
-take_counted [] = refl
-take_counted (zero ∷ bytes) = refl
 take_counted (suc b ∷ bytes) = ap (λ (l : List ℕ). suc b ∷ l) (take_counted bytes)
+take_counted _ = refl
 
 -- all of them, where there is none
 pub counted_all : (bytes : List ℕ) → length bytes ≤ length (counted bytes) → counted bytes ≡ bytes
@@ -74,9 +66,6 @@ behind_counted (suc b ∷ file) =
 -- ---- what was held, and a piece behind it, in a buffer of which so many bytes were passed
 
 module _ (passed : ℕ) (items held piece : List ℕ) (is : drop passed items ≡ held ++ piece) where
-  pub piece_fits : passed ≤ length items → passed + length held + length piece ≡ length items
-  piece_fits within = omega (arith, within, ap length is, length-drop passed items, length-append held piece)
-
   pub piece_is : drop (passed + length held) items ≡ piece
   piece_is =
       sym (drop-drop (length held) passed items) ∙ ap (drop (length held)) is ∙ drop_at held piece (length held) refl
@@ -84,18 +73,15 @@ module _ (passed : ℕ) (items held piece : List ℕ) (is : drop passed items �
   pub piece_seen : (n : ℕ) → n ≡ length held → (now : List ℕ) → now ≡ items
       → take (length now - (passed + n)) (drop (passed + n) now) ≡ piece
   piece_seen n n_is now now_is =
-      let all : length (drop (passed + length held) items) ≤ length items - (passed + length held) =
-      omega (arith, length-drop (passed + length held) items) in
-      ap (λ (l : List ℕ). take (length l - (passed + n)) (drop (passed + n) l)) now_is
-      ∙ ap (λ (k : ℕ). take (length items - (passed + k)) (drop (passed + k) items)) n_is
-      ∙ take_all (length items - (passed + length held)) (drop (passed + length held) items) all ∙ piece_is
+      rw (now_is, n_is) (take_all (length items - (passed + length held)) (drop (passed + length held) items)
+      (omega (arith, length-drop (passed + length held) items)) ∙ piece_is)
 
   pub piece_cut : (first : ℕ) → drop passed (take (passed + length held + first) items) ≡ held ++ take first piece
   piece_cut first =
       ap (λ (n : ℕ). drop passed (take n items)) (omega arith) ∙ drop-take passed (length held + first) items
       ∙ ap (take (length held + first)) is ∙ take-append-add held piece first
 
-module _ (is : Bool) (file : List ℕ) (size : ℕ) (old mid new : Held) (a : Adds is file size old mid) where
+module _ {is : Bool} {file : List ℕ} {size : ℕ} {old mid new : Held} (a : Adds is file size old mid) where
   -- a zero is there
   pub gains_cut : (first less : ℕ) → first ≡ length (counted a.piece) → first < length a.piece
       → less ≡ end_of old + first → new ≡ record old { bytes = old.bytes ++ take first a.piece }
@@ -135,7 +121,7 @@ module _ (is : Bool) (file : List ℕ) (size : ℕ) (old mid new : Held) (a : Ad
     within = a.within;
     fewer = omega arith;
     closer = inl a.some;
-    no_zero = subst HasNoZero (counted_all a.piece whole) (counted_none a.piece);
+    no_zero = rw (counted_all a.piece whole) at (counted_none a.piece);
     there = a.there;
     bound = λ c. inl refl;
   }

@@ -1,19 +1,13 @@
 -- What stands behind what counts is looked at, byte by byte.
-use Rattle.std.proofs.Common.{◌≡◌, inl, inr, ℕ, zero, suc, ◌+◌, ◌-◌, ◌<◌, ◌≤◌, Bool, true, false, IsTrue, cond, eqb}
-use Rattle.std.proofs.Common.{not, List, [], ◌∷◌, ◌++◌, length, take, drop, Some, None, append_assoc, append-nil}
-use Rattle.std.proofs.Common.{refl, sym, ◌∙◌, ap, subst, arith, length-append, take-append-drop}
-use Rattle.std.specs.List.{position_or_len}
-use Rattle.std.proofs.lemmas.Bool.{cases_lt}
-use Rattle.std.proofs.lemmas.List.{drop_at, drop-drop, drop-append-le, length-drop, nil_from_length}
-use Rattle.std.proofs.lemmas.List.Prefix.{at_from_reads}
-use Rattle.gu_codec.specs.Fronts.{Front, Whole, Garbled, Partial, Broken, IsFrontOf}
-use Rattle.gu_codec.specs.Grammar.{opening, IsFront, IsBrokenAt}
-use Rattle.gu_codec.specs.Messages.{Message}
-use Rattle.gu_codec.proofs.Streams.{frame_len, begins_stays, broken_stays}
-use Rattle.gu_codec.proofs.Uniqueness.{one_front, frame_parts}
-use Rattle.gu_journal.specs.Damages.{HasMessage, IsLaterSeal, HasLaterSeal}
-use Rattle.gu_journal.specs.Held.{Held, Adds, end_of, strange_len}
-use Rattle.gu_journal.specs.declared.replay.Stand.{Stand}
+use Rattle.gu_codec.proofs.Uniqueness.{frame_parts, one_front}
+use Rattle.gu_journal.proofs.{Looping.reads_on, Vocabulary.{Adds, ap, append_assoc, arith, at_from_reads, begins_stays}}
+use Rattle.gu_journal.proofs.Vocabulary.{Bool, cases_lt, cond, drop, drop-append-le, drop-drop, drop_at, end_of, eqb}
+use Rattle.gu_journal.proofs.Vocabulary.{false, frame_len, Front, HasLaterSeal, HasMessage, Held, inl, inr, IsFrontOf}
+use Rattle.gu_journal.proofs.Vocabulary.{IsTrue, length, length-append, length-drop, List, Message, nil_from_length}
+use Rattle.gu_journal.proofs.Vocabulary.{not, OnlyReads, opening, position_or_len, refl, Some, Stand, strange_len, suc}
+use Rattle.gu_journal.proofs.Vocabulary.{sym, take, take-append-drop, true, Whole, zero, [], ℕ, ◌++◌, ◌+◌, ◌-◌, ◌<◌}
+use Rattle.gu_journal.proofs.Vocabulary.{◌∙◌, ◌∷◌, ◌≡◌, ◌≤◌}
+use Rattle.gu_journal.specs.Damages.{IsLaterSeal}
 
 -- what is held stands there in the file
 abbrev pub IsThere : List ℕ → Held → Type 0
@@ -64,9 +58,9 @@ module _ (file : List ℕ) (w : Held) where
       let behind : is.0 ≡ drop (end_of w) file =
       sym (drop_at w.bytes is.0 (length w.bytes) refl) ∙ ap (drop (length w.bytes)) (sym is.1)
       ∙ drop-drop (length w.bytes) w.at file in
-      subst (λ (v : Held). IsThere file v) (sym a.added) (
+      rw a.added (
         rest,
-        is.1 ∙ ap (λ (l : List ℕ). w.bytes ++ l) (behind ∙ found) ∙ sym (append_assoc w.bytes a.piece rest),
+        rw (append_assoc, ← found, ← behind) is.1,
       )
 
   -- a seal that is looked for stands there
@@ -96,15 +90,11 @@ NoneFrom stand first file from to =
 abbrev pub NoneHere : Stand → ℕ → List ℕ → Type 0
 NoneHere stand first bytes = (m : Message) → HasMessage bytes m → IsLaterSeal stand first m → ⊥
 
-pub none_yet : (stand : Stand) (first : ℕ) (file : List ℕ) (from : ℕ) → NoneFrom stand first file from from
-none_yet stand first file from n low high m is seal = absurd (omega (arith, low, high))
-
 -- where something else is there
-other_front : (stand : Stand) (first : ℕ) (bytes : List ℕ) (x : Front) → IsFrontOf bytes x
+pub other_front : (stand : Stand) (first : ℕ) (bytes : List ℕ) (x : Front) → IsFrontOf bytes x
     → ((m : Message) (len : ℕ) → x ≡ Whole m len → IsLaterSeal stand first m → ⊥) → NoneHere stand first bytes
 other_front stand first bytes x there other m is seal =
-    let same = one_front bytes x (Whole m is.0) there is.1 in
-    other m is.0 same seal
+    other m is.0 (one_front bytes x (Whole m is.0) there is.1) seal
 
 module _ (stand : Stand) (first : ℕ) (bytes more : List ℕ) where
   -- another message
@@ -113,24 +103,7 @@ module _ (stand : Stand) (first : ℕ) (bytes more : List ℕ) where
   no_message m len front other =
       other_front stand first (bytes ++ more) (Whole m len)
       (begins_stays bytes more (record { fields = Some m; len = len }) front)
-      (λ n size same seal. let is : n ≡ m = cc in other (subst (λ (x : Message). IsLaterSeal stand first x) is seal))
-
-  -- a garbled frame
-  pub no_garbled : (len : ℕ) → IsFrontOf bytes (Garbled len) → NoneHere stand first (bytes ++ more)
-  no_garbled len front =
-      other_front stand first (bytes ++ more) (Garbled len)
-      (begins_stays bytes more (record { fields = None; len = len }) front) (λ n size same seal. cc)
-
-  -- no frame
-  pub no_frame : (at : ℕ) → IsBrokenAt bytes at → NoneHere stand first (bytes ++ more)
-  no_frame at front =
-      other_front stand first (bytes ++ more) (Broken at) (broken_stays bytes more at front) (λ n size same seal. cc)
-
-  -- a front of one, behind which nothing stands
-  pub no_more : IsFront bytes → more ≡ [] → NoneHere stand first (bytes ++ more)
-  no_more front none =
-      other_front stand first (bytes ++ more) Partial
-      (subst IsFront (sym (ap (λ (l : List ℕ). bytes ++ l) none ∙ append-nil bytes)) front) (λ n size same seal. cc)
+      (λ n size same seal. let is : n ≡ m = cc in other (rw is at seal))
 
 -- a message begins with `8`
 message_first : (bytes : List ℕ) (m : Message) → HasMessage bytes m → (tail : List ℕ) × (bytes ≡ 56 ∷ tail)
@@ -158,8 +131,8 @@ before_frame : (bytes more tail : List ℕ) (i : ℕ) → i < position_or_len (�
 before_frame [] more tail i less is = absurd (omega (arith, less))
 before_frame (b ∷ bytes) more tail zero less is =
     let first : b ≡ 56 = cc in
-    let none : 0 < 0 = subst (λ (x : ℕ). 0 < position_or_len (λ b. eqb b 56) (x ∷ bytes)) first less in
-    absurd (omega (arith, none))
+    let none : 0 < 0 = rw first at less in
+    absurd (omega arith)
 before_frame (b ∷ bytes) more tail (suc i) less is =
     before_frame bytes more tail i (less_on (eqb b 56) i (position_or_len (λ b. eqb b 56) bytes) less) is
 
@@ -182,19 +155,13 @@ module _ (stand : Stand) (first : ℕ) (file : List ℕ) (w : Held) (from : ℕ)
         let place : w.at + i ≡ n = omega (arith, behind) in
         let same : drop n file ≡ drop i (w.bytes ++ there.0) =
         ap (λ (x : ℕ). drop x file) (sym place) ∙ sym (drop-drop i w.at file) ∙ ap (drop i) there.1 in
-        none_within stand first w.bytes there.0 i (omega (arith, high, place)) here m
-        (subst (λ (b : List ℕ). HasMessage b m) same is) seal
+        none_within stand first w.bytes there.0 i (omega (arith, high, place)) here m (rw same at is) seal
   ]
 
   -- all of the file is held
   pub nothing_more : end_of w ≡ length file → there.0 ≡ []
-  nothing_more all = nil_from_length there.0 (omega (
-    arith,
-    all,
-    ap length there.1,
-    length-drop w.at file,
-    length-append w.bytes there.0,
-  ))
+  nothing_more all =
+      nil_from_length there.0 (omega (arith, ap length there.1, length-drop w.at file, length-append w.bytes there.0))
 
 -- so none stands there, once all was passed
 pub none_stands : (stand : Stand) (first : ℕ) (file : List ℕ) (from to : ℕ) → NoneFrom stand first file from to
@@ -204,13 +171,62 @@ none_stands stand first file from to none all has =
     let later : drop n file ≡ has.1 =
     sym (drop-drop (length has.0) from file) ∙ ap (drop (length has.0)) has.3
     ∙ drop_at has.0 has.1 (length has.0) refl in
-    let is : HasMessage (drop n file) has.2 = subst (λ (b : List ℕ). HasMessage b has.2) (sym later) has.4 in
-    none n (omega arith) (omega (
-      arith,
-      all,
-      message_some (drop n file) has.2 is,
-      length-drop n file,
-    )) has.2 is has.5
+    let is : HasMessage (drop n file) has.2 = rw later has.4 in
+    none n (omega arith) (omega (arith, message_some (drop n file) has.2 is, length-drop n file)) has.2 is has.5
 
-pub there_first : (file : List ℕ) (at : ℕ) → IsThere file (record { at = at; bytes = [] })
-there_first file at = (drop at file, refl)
+-- While seals are looked for in a file from a place on: what is held stands there, and before it none begins.
+pub record Looks {D : Type 0} (seen : D → List ℕ) (may_leave : D → List ℕ → Type 0) (is_usable is_clean : D → Bool)
+    (start disk : D) (size from : ℕ) (stand : Stand) (first : ℕ) (w : Held) : Type 0 where
+  pub within : end_of w ≤ size
+  pub behind : from ≤ w.at
+  pub reads : OnlyReads seen may_leave is_usable is_clean start disk
+  pub there : IsTrue (is_clean disk) → IsThere (seen start) w
+  pub none : IsTrue (is_clean disk) → NoneFrom stand first (seen start) from w.at
+
+-- at first nothing is held
+pub looks_first : {D : Type 0} {seen : D → List ℕ} {may_leave : D → List ℕ → Type 0} {is_usable is_clean : D → Bool}
+    {start : D} {size : ℕ} {stand : Stand} {first : ℕ} {w : Held}
+    → IsTrue (is_usable start) → w.at ≤ size → w.bytes ≡ []
+    → Looks seen may_leave is_usable is_clean start start size w.at stand first w
+looks_first {seen = seen} {start = start} {w = w} usable within empty = record {
+  within = omega (arith, ap length empty);
+  behind = omega arith;
+  reads = record { same = refl; usable = usable; clean = λ h. h; crash = λ x may. may };
+  there = λ clean. (drop w.at (seen start), rw empty refl);
+  none = λ clean n low high. absurd (omega arith);
+}
+
+module _ {D : Type 0} {seen : D → List ℕ} {may_leave : D → List ℕ → Type 0} {is_usable is_clean : D → Bool}
+    {start disk : D} {size from : ℕ} {stand : Stand} {first : ℕ} {w new : Held}
+    (l : Looks seen may_leave is_usable is_clean start disk size from stand first w) where
+  -- bytes are passed, where no such seal begins
+  pub looks_passed : strange_len w.bytes ≤ length w.bytes
+      → new ≡ record { at = w.at + strange_len w.bytes; bytes = drop (strange_len w.bytes) w.bytes }
+      → ((clean : IsTrue (is_clean disk)) → NoneHere stand first (w.bytes ++ (l.there clean).0))
+      → Looks seen may_leave is_usable is_clean start disk size from stand first new
+  looks_passed fits passed none =
+      let end = passed_end w new (strange_len w.bytes) fits passed in
+      record {
+        within = omega (arith, end.0, l.within);
+        behind = omega (arith, end.2, l.behind);
+        reads = l.reads;
+        there = λ clean. rw passed (there_passed (seen start) w (strange_len w.bytes) fits (l.there clean));
+        none = λ clean.
+            rw end.2 (none_passed stand first (seen start) w from (l.there clean) (l.none clean) (none clean));
+      }
+
+  -- a piece more is read
+  pub looks_filled : {next : D} → OnlyReads seen may_leave is_usable is_clean disk next
+      → Adds (is_clean next) (seen disk) size w new
+      → Looks seen may_leave is_usable is_clean start next size from stand first new
+  looks_filled {next} reads adds =
+      let adds : Adds (is_clean next) (seen start) size w new = rw l.reads.same at adds in
+      let end = filled_end (is_clean next) (seen start) size w new adds in
+      record {
+        within = end.1;
+        behind = omega (arith, end.3, l.behind);
+        reads = reads_on l.reads reads;
+        there = λ clean.
+            there_filled (seen start) w (is_clean next) size new adds clean (l.there (reads.clean clean));
+        none = λ clean. rw end.3 (l.none (reads.clean clean));
+      }

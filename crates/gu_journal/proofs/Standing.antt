@@ -1,41 +1,18 @@
 -- Which journals stand in a file, and what a start answers of it.
-use Rattle.std.proofs.Common.{◌≡◌, ◌⊎◌, inl, inr, ℕ, ◌<◌, ◌≤◌, List, [], ◌++◌, length, take, drop}
-use Rattle.std.proofs.Common.{refl, sym, ◌∙◌, ap, subst, arith, append_assoc, append-nil, length-append, length-take}
-use Rattle.std.proofs.Common.{take-append-drop}
-use Rattle.std.proofs.lemmas.List.{nil_from_length, take_all}
-use Rattle.std.proofs.lemmas.Bool.{cases_lt}
-use Rattle.gu_base.specs.House.{House}
-use Rattle.gu_base.specs.Runs.{opening_history}
-use Rattle.gu_base.specs.declared.entry.Entry.{Entry}
-use Rattle.gu_codec.specs.Grammar.{IsFront}
-use Rattle.gu_codec.proofs.Streams.{front_nil, frame_len}
-use Rattle.gu_store.specs.Store.{StillHas, IsLeft}
-use Rattle.gu_store.specs.Zeros.{counted, HasNoZero, HasZero}
-use Rattle.gu_store.proofs.Counted.{counted_behind, counted_fits}
-use Rattle.gu_journal.specs.Counting.{Stands, BeginsBy, HasAll, Recovers, IsPart, StartsAlike}
-use Rattle.gu_journal.specs.Journal.{IsJournal, IsGroupBehind, head_alone, group_more}
-use Rattle.gu_journal.specs.Taking.{IsTaken}
-use Rattle.gu_journal.specs.declared.replay.Stand.{Stand}
-use Rattle.gu_journal.specs.declared.replay.Stand.TheVariants.{Fresh, Sealed, Unsealed}
-use Rattle.gu_journal.proofs.Leading.{begins_on, says_begins, frame_some, one_pin, longest, all_or_before}
+use Rattle.gu_codec.proofs.Streams.{front_nil}
+use Rattle.gu_journal.proofs
+use proofs.{Leading.{all_or_before, begins_on, frame_some, longest, one_pin, says_begins}, Vocabulary.{ap, append-nil}}
+use proofs.Vocabulary.{append_assoc, arith, BeginsBy, cases_lt, counted, counted_behind, counted_fits, drop, Entry}
+use proofs.Vocabulary.{frame_len, Fresh, group_more, HasNoZero, HasZero, head_alone, House, inl, inr, IsFront}
+use proofs.Vocabulary.{IsGroupBehind, IsJournal, IsLeft, IsPart, IsTaken, length, length-append, length-take, List}
+use proofs.Vocabulary.{nil_from_length, opening_history, Recovers, refl, Sealed, Stand, Stands, StartsAlike, StillHas}
+use proofs.Vocabulary.{sym, take, take-append-drop, take_all, Unsealed, [], ℕ, ◌++◌, ◌<◌, ◌∙◌, ◌≡◌, ◌≤◌, ◌⊎◌}
+use Rattle.gu_journal.specs.Counting.{HasAll}
 
 -- ---- fronts
 
-still_on : (a b c : List ℕ) → StillHas a b → StillHas b c → StillHas a c
-still_on a b c one two =
-    (one.0 ++ two.0, two.1 ∙ ap (λ (l : List ℕ). l ++ two.0) one.1 ∙ append_assoc a one.0 two.0)
-
-still_all : (a : List ℕ) → StillHas a a
-still_all a = ([], sym (append-nil a))
-
 still_short : (a b : List ℕ) → StillHas a b → length a ≤ length b
 still_short a b is = omega (arith, ap length is.1, length-append a is.0)
-
--- where both are as long, they are the same
-still_same : (a b : List ℕ) → StillHas a b → length b ≤ length a → a ≡ b
-still_same a b is fits =
-    let none : is.0 ≡ [] = nil_from_length is.0 (omega (arith, fits, ap length is.1, length-append a is.0)) in
-    sym (is.1 ∙ ap (λ (l : List ℕ). a ++ l) none ∙ append-nil a)
 
 -- bytes without a zero at the front of a file stand before its first one
 pub stands_before : (bytes file : List ℕ) → HasNoZero bytes → StillHas bytes file → StillHas bytes (counted file)
@@ -48,14 +25,8 @@ begins_all h = ([], sym (append-nil h))
 
 begins_same : (h k : List Entry) → BeginsBy h k → BeginsBy k h → h ≡ k
 begins_same h k one two =
-    let none : one.0 ≡ [] = nil_from_length one.0 (omega (
-      arith,
-      ap length one.1,
-      ap length two.1,
-      length-append k one.0,
-      length-append h two.0,
-    )) in
-    one.1 ∙ ap (λ (l : List Entry). k ++ l) none ∙ append-nil k
+    let none = nil_from_length one.0 (omega (arith, ap length one.1, ap length two.1, length-append {A = Entry})) in
+    rw (none, append-nil) at one.1
 
 -- the history of a journal begins with the opening one
 pub journal_begins : (t : House) (pin bytes : List ℕ) (h : List Entry) → IsJournal t pin bytes h
@@ -71,12 +42,8 @@ journal_some t pin _ _ (group_more bytes entries frame h new m journal says one 
 
 journal_long : (t : House) (pin bytes : List ℕ) (h : List Entry) → IsJournal t pin bytes h → 21 ≤ length bytes
 journal_long t pin _ _ (head_alone frame m one head) = frame_len frame one.0 (length frame) one.1
-journal_long t pin _ _ (group_more bytes entries frame h new m journal says one seal) = omega (
-  arith,
-  journal_long t pin bytes h journal,
-  length-append (bytes ++ entries) frame,
-  length-append bytes entries,
-)
+journal_long t pin _ _ (group_more bytes entries frame h new m journal says one seal) =
+    omega (arith, journal_long t pin bytes h journal, length-append {A = ℕ})
 
 -- ---- what a start answers
 
@@ -89,7 +56,7 @@ one_start t pin file h k a b = begins_same h k (begins h a k b.there) (begins k 
         → (Stands t pin file k ⊎ (k ≡ opening_history t))
         → BeginsBy h k
     begins h r k (inl stands) = r.longest k stands
-    begins h r k (inr is) = subst (λ (x : List Entry). BeginsBy h x) (sym is) (opens r.there)
+    begins h r k (inr is) = rw is (opens r.there)
       where
         opens : (Stands t pin file h ⊎ (h ≡ opening_history t)) → BeginsBy h (opening_history t)
         opens (inl stands) = journal_begins t pin stands.0 h stands.1
@@ -110,17 +77,16 @@ pub taken_recovers : (t : House) (pin taken rest file : List ℕ) (s : Stand) (h
     → Recovers t pin file h
 taken_recovers t pin taken rest file Fresh h stands sealed begun is = record {
   there = inr stands.1;
-  longest = λ k other. elim (longest t pin other.0 k taken h other.1 rest other.2.0 begun
-      (sym other.2.1 ∙ is) Fresh stands) [
-        | inl n ↦ absurd n
-        | inr e ↦ absurd (omega (arith, journal_some t pin other.0 k other.1, ap length e.whole, ap length stands.0))
-      ];
-  alone = λ by k other. elim (longest t by other.0 k taken h other.1 rest other.2.0 begun
-      (sym other.2.1 ∙ is) Fresh stands) [
-        | inl n ↦ absurd n
-        | inr e ↦ absurd (omega (arith, journal_some t by other.0 k other.1, ap length e.whole, ap length stands.0))
-      ];
+  longest = λ k other. absurd (none pin k other);
+  alone = λ by k other. absurd (none by k other);
 }
+  where
+    none : (by : List ℕ) (k : List Entry) → Stands t by file k → ⊥
+    none by k other = elim (longest t by other.0 k taken h other.1 rest other.2.0 begun
+        (sym other.2.1 ∙ is) Fresh stands) [
+          | inl n ↦ n
+          | inr e ↦ absurd (omega (arith, journal_some t by other.0 k other.1, ap length e.whole, ap length stands.0))
+        ]
 taken_recovers t pin taken rest file Sealed h stands sealed begun is = record {
   there = inl (taken, stands, (rest, is));
   longest = λ k other. elim (longest t pin other.0 k taken h other.1 rest other.2.0 begun
@@ -141,16 +107,13 @@ open_recovers t pin taken rest file h o begun is = record {
   longest = λ k other. elim (longest t pin other.0 k taken h other.1 rest other.2.0 begun
       (sym other.2.1 ∙ is) Unsealed o) [
         | inl n ↦ n.0.begins
-        | inr e ↦ absurd (apart e.stands)
+        | inr e ↦ cc e.stands
       ];
   alone = λ by k other. pinned t by pin file o.bytes (o.entries ++ rest) o.h k o.journal whole other;
 }
   where
-    apart : Unsealed ≡ Sealed → ⊥
-    apart e = cc
-
     whole : counted file ≡ o.bytes ++ (o.entries ++ rest)
-    whole = is ∙ ap (λ (b : List ℕ). b ++ rest) o.parts ∙ append_assoc o.bytes o.entries rest
+    whole = rw (o.parts, append_assoc) at is
 
 -- of a file in which a journal counts, and nothing more
 pub journal_recovers : (t : House) (pin bytes file : List ℕ) (h : List Entry) → IsJournal t pin bytes h
@@ -165,8 +128,7 @@ pub crash_starts : (t : House) (pin bytes group file : List ℕ) (h new : List E
     → IsGroupBehind t bytes h group new → IsLeft bytes group file → Recovers t pin file h ⊎ Recovers t pin file new
 crash_starts t pin bytes group file h new journal g left = elim (either (length group) left.0) [
   | inl whole ↦
-      let all : counted file ≡ bytes ++ group =
-      left.1 ∙ ap (λ (b : List ℕ). bytes ++ b) (take_all left.0 group whole) in
+      let all : counted file ≡ bytes ++ group = rw (take_all left.0 group whole) at left.1 in
       inr (record {
         there = inl (bytes ++ group, grown, ([], all ∙ sym (append-nil (bytes ++ group))));
         longest = λ k other. elim (all_or_before t pin other.0 k bytes group h new other.1 journal g other.2.0
@@ -179,22 +141,18 @@ crash_starts t pin bytes group file h new journal g left = elim (either (length 
   | inr cut ↦ inl (record {
     there = inl (bytes, journal, (take left.0 group, left.1));
     longest = λ k other.
-        let on : other.0 ++ (other.2.0 ++ drop left.0 group) ≡ bytes ++ group =
-        sym (append_assoc other.0 other.2.0 (drop left.0 group))
-        ∙ ap (λ (b : List ℕ). b ++ drop left.0 group) (sym other.2.1 ∙ left.1)
-        ∙ append_assoc bytes (take left.0 group) (drop left.0 group)
-        ∙ ap (λ (b : List ℕ). bytes ++ b) (take-append-drop left.0 group) in
+        let parts : (other.0 ++ other.2.0) ++ drop left.0 group ≡ bytes ++ group =
+        ap (λ (b : List ℕ). b ++ drop left.0 group) (sym other.2.1 ∙ left.1)
+        ∙ rw (append_assoc, take-append-drop left.0 group) refl in
         elim (all_or_before t pin other.0 k bytes group h new other.1 journal g
-        (other.2.0 ++ drop left.0 group) on) [
+        (other.2.0 ++ drop left.0 group) (rw append_assoc at parts)) [
           | inl n ↦ n.begins
           | inr e ↦ absurd (omega (
             arith,
-            cut,
             ap length e.whole,
-            ap length (sym other.2.1 ∙ left.1),
-            length-append bytes group,
-            length-append bytes (take left.0 group),
-            length-append other.0 other.2.0,
+            ap length other.2.1,
+            ap length left.1,
+            length-append {A = ℕ},
             length-take left.0 group,
           ))
         ];
@@ -206,11 +164,7 @@ crash_starts t pin bytes group file h new journal g left = elim (either (length 
     either n k = elim (cases_lt k n) [ inl l ↦ inr l | inr g ↦ inl g ]
 
     grown : IsJournal t pin (bytes ++ group) new
-    grown =
-        let whole : (bytes ++ g.entries) ++ g.frame ≡ bytes ++ group =
-        append_assoc bytes g.entries g.frame ∙ ap (λ (b : List ℕ). bytes ++ b) (sym g.parts) in
-        subst (λ (b : List ℕ). IsJournal t pin b new) whole
-        (group_more bytes g.entries g.frame h new g.m journal g.says g.one g.seal)
+    grown = rw (g.parts, ← append_assoc) (group_more bytes g.entries g.frame h new g.m journal g.says g.one g.seal)
 
 -- what is left there is a journal's front
 pub crash_part : (t : House) (pin bytes group file : List ℕ) (h new : List Entry) → IsJournal t pin bytes h
@@ -220,12 +174,7 @@ crash_part t pin bytes group file h new was journal left zero = record {
   bytes = bytes ++ group;
   h = new;
   journal = journal;
-  begins = (
-    drop left.0 group,
-    ap (λ (b : List ℕ). bytes ++ b) (sym (take-append-drop left.0 group))
-        ∙ sym (append_assoc bytes (take left.0 group) (drop left.0 group))
-        ∙ ap (λ (b : List ℕ). b ++ drop left.0 group) (sym left.1),
-  );
+  begins = (drop left.0 group, rw (left.1, append_assoc, take-append-drop left.0 group) refl);
   stands = (h, (bytes, was, (take left.0 group, left.1)));
 }
 
@@ -249,8 +198,8 @@ head_starts t pin head file journal left = record {
   where
     on : (by : List ℕ) (k : List Entry) → (other : Stands t by file k)
         → other.0 ++ (other.2.0 ++ drop left.0 head) ≡ head ++ []
-    on by k other = sym (append_assoc other.0 other.2.0 (drop left.0 head))
-        ∙ ap (λ (b : List ℕ). b ++ drop left.0 head) (sym other.2.1 ∙ left.1)
+    on by k other =
+        rw append_assoc at (ap (λ (b : List ℕ). b ++ drop left.0 head) (sym other.2.1 ∙ left.1))
         ∙ take-append-drop left.0 head ∙ sym (append-nil head)
 
 -- ---- a file in which no journal stands
@@ -265,20 +214,16 @@ none_starts t pin file none = record {
 
 -- as in a byte
 pub few_none : (t : House) (pin file : List ℕ) → length file ≤ 1 → (k : List Entry) → Stands t pin file k → ⊥
-few_none t pin file few k stands = absurd (omega (
-  arith,
-  few,
-  journal_long t pin stands.0 k stands.1,
-  still_short stands.0 (counted file) stands.2,
-  counted_fits file,
-))
+few_none t pin file few k stands =
+    let long = journal_long t pin stands.0 k stands.1 in
+    absurd (omega (arith, long, still_short stands.0 (counted file) stands.2, counted_fits file))
 
 pub none_alike : (t : House) (pin file other : List ℕ) → ((k : List Entry) → Stands t pin file k → ⊥)
     → Recovers t pin other (opening_history t) → StartsAlike t pin file other
 none_alike t pin file other none is = record {
   answer = λ h r. elim r.there [
     | inl stands ↦ absurd (none h stands)
-    | inr opening ↦ subst (λ (k : List Entry). Recovers t pin other k) (sym opening) is
+    | inr opening ↦ rw opening is
   ];
   part = λ part. absurd (none part.stands.0 part.stands.1);
 }
@@ -305,17 +250,14 @@ pub open_has_all : (t : House) (pin taken rest file : List ℕ) (h : List Entry)
 open_has_all t pin taken rest file h o begun is other k journal there =
     elim (longest t pin other k taken h journal rest there.0 begun (sym there.1 ∙ is) Unsealed o) [
       | inl n ↦ n.0.within
-      | inr e ↦ absurd (apart e.stands)
+      | inr e ↦ cc e.stands
     ]
-  where
-    apart : Unsealed ≡ Sealed → ⊥
-    apart e = cc
 
 module _ (t : House) (pin taken file c : List ℕ) (nested : HasAll t pin taken file) where
   -- they stand there still
   pub all_stand : StillHas taken (counted c) → (k : List Entry) → Stands t pin file k → Stands t pin c k
   all_stand there k stands =
-      (stands.0, stands.1, still_on stands.0 taken (counted c) (nested stands.0 k stands.1 stands.2) there)
+      (stands.0, stands.1, begins_on stands.0 taken (counted c) (nested stands.0 k stands.1 stands.2) there)
 
   -- and no others, where less stands before the first zero
   pub less_alike : StillHas taken (counted c) → StillHas (counted c) (counted file) → (IsPart t pin file → HasZero c)
@@ -324,16 +266,16 @@ module _ (t : House) (pin taken file c : List ℕ) (nested : HasAll t pin taken 
     answer = λ h r. record {
       there = elim r.there [ inl stands ↦ inl (all_stand there h stands) | inr is ↦ inr is ];
       longest = λ k stands.
-          r.longest k (stands.0, stands.1, still_on stands.0 (counted c) (counted file) stands.2 less);
+          r.longest k (stands.0, stands.1, begins_on stands.0 (counted c) (counted file) stands.2 less);
       alone = λ by k stands. all_stand there k (r.alone by k
-          (stands.0, stands.1, still_on stands.0 (counted c) (counted file) stands.2 less));
+          (stands.0, stands.1, begins_on stands.0 (counted c) (counted file) stands.2 less));
     };
     part = λ p. record {
       zero = zero p;
       bytes = p.bytes;
       h = p.h;
       journal = p.journal;
-      begins = still_on (counted c) (counted file) p.bytes less p.begins;
+      begins = begins_on (counted c) (counted file) p.bytes less p.begins;
       stands = (p.stands.0, all_stand there p.stands.0 p.stands.1);
     };
   }
@@ -341,27 +283,20 @@ module _ (t : House) (pin taken file c : List ℕ) (nested : HasAll t pin taken 
 -- of a front of what stood there
 pub front_less : (taken rest file c : List ℕ) → counted file ≡ taken ++ rest → IsLeft taken rest c
     → StillHas (counted c) (counted file)
-front_less taken rest file c is left = (
-  drop left.0 rest,
-  is ∙ ap (λ (b : List ℕ). taken ++ b) (sym (take-append-drop left.0 rest))
-      ∙ sym (append_assoc taken (take left.0 rest) (drop left.0 rest))
-      ∙ ap (λ (b : List ℕ). b ++ drop left.0 rest) (sym left.1),
-)
+front_less taken rest file c is left =
+    (drop left.0 rest, is ∙ rw (left.1, append_assoc, take-append-drop left.0 rest) refl)
 
 -- what a start answers of a file that was put at rest is what it answered
 pub settled_alike : (t : House) (pin taken file c : List ℕ) (h : List Entry) → HasAll t pin taken file
     → Recovers t pin file h → StillHas taken (counted c) → Recovers t pin c h → (IsPart t pin file → IsPart t pin c)
     → StartsAlike t pin file c
-settled_alike t pin taken file c h nested is there now part = record {
-  answer = λ k r. subst (λ (x : List Entry). Recovers t pin c x) (one_start t pin file h k is r) now;
-  part = part;
-}
+settled_alike t pin taken file c h nested is there now part =
+    record { answer = λ k r. rw (← one_start t pin file h k is r) now; part = part }
 
 -- a file that is as it was
 pub same_stands : (t : House) (pin file c : List ℕ) (k : List Entry) → c ≡ file → Stands t pin file k
     → Stands t pin c k
-same_stands t pin file c k is stands = subst (λ (x : List ℕ). Stands t pin x k) (sym is) stands
+same_stands t pin file c k is stands = rw is stands
 
 pub same_alike : (t : House) (pin file c : List ℕ) → c ≡ file → StartsAlike t pin file c
-same_alike t pin file c is = subst (λ (x : List ℕ). StartsAlike t pin file x) (sym is)
-    (record { answer = λ h r. r; part = λ p. p })
+same_alike t pin file c is = rw is (record { answer = λ h r. r; part = λ p. p })

@@ -1,7 +1,7 @@
 -- The texts of tags of one digit, two and three.
-use Rattle.std.proofs.Common.{◌≡◌, ℕ, ◌+◌, ◌/◌, ◌%◌, ◌<◌, ◌≤◌, [], ◌∷◌, ◌++◌, arith, refl}
-use Rattle.std.specs.Prelude.{decimal}
-use Rattle.std.proofs.lemmas.Fmt.{decimal_digit, decimal_step}
+use Rattle.gu_journal.proofs.Vocabulary.{arith, decimal, decimal_digit, refl, [], ℕ, ◌%◌, ◌++◌, ◌+◌, ◌/◌, ◌<◌, ◌∷◌, ◌≡◌}
+use Rattle.gu_journal.proofs.Vocabulary.{◌≤◌}
+use Rattle.std.proofs.lemmas.Fmt.{decimal_step}
 
 pub one_digit : (n : ℕ) → n < 10 → (48 + n % 10) ∷ 61 ∷ [] ≡ decimal n ++ 61 ∷ []
 one_digit n hi =

@@ -1,7 +1,5 @@
-use Rattle.std.proofs.Common.{◌+◌, ◌-◌, ◌*◌, length}
-use Rattle.gu_journal.specs.Held.{OnlyReads, end_of}
-use Rattle.gu_journal.specs.Recovered.{Goes}
 use Rattle.gu_journal.proofs.file.take_frames.Given as goal
+use Rattle.gu_journal.proofs.Vocabulary.{end_of, Goes, length, OnlyReads, ◌*◌, ◌+◌, ◌-◌}
 
 abbrev pub invariant-frames : goal.invariant-frames
 invariant-frames g l = record {

@@ -1,13 +1,7 @@
-use Rattle.std.proofs.Common.{◌≡◌, ◌+◌, ◌<◌, ◌≤◌, List, ◌∷◌, ◌++◌, length, take, drop, sym, ◌∙◌, ap, subst}
-use Rattle.std.proofs.Common.{arith}
-use Rattle.std.proofs.Common.{rules, length-take, take-append-drop}
-use Rattle.std.proofs.lemmas.List.{drop_more, take_all}
-use Rattle.std.specs.List.{AllByRecursion}
-use Rattle.gu_base.specs.declared.entry.Entry.{Entry}
-use Rattle.gu_journal.specs.Groups.{entry_frames, IsSayableEntry}
-use Rattle.gu_journal.proofs.Groups.{one_more}
-use Rattle.gu_journal.proofs.Firsts.{all_more}
 use Rattle.gu_journal.proofs.group.write_entries.Goals as goal
+use Rattle.gu_journal.proofs.{Groups.{all_more, one_more}, Vocabulary.{AllByRecursion, ap, arith, drop, drop_more}}
+use Rattle.gu_journal.proofs.Vocabulary.{Entry, entry_frames, IsSayableEntry, length, length-take, List, rules, subst}
+use Rattle.gu_journal.proofs.Vocabulary.{sym, take, take-append-drop, take_all, ◌++◌, ◌+◌, ◌<◌, ◌∙◌, ◌∷◌, ◌≡◌, ◌≤◌}
 
 pub loop-i-preserved : goal.loop-i-preserved
 loop-i-preserved c =

@@ -1,7 +1,5 @@
-use Rattle.std.proofs.Common.{◌≡◌, ◌+◌, ◌++◌, take, drop}
-use Rattle.std.specs.List.{AllByRecursion}
-use Rattle.gu_journal.specs.Groups.{entry_frames, IsSayableEntry}
 use Rattle.gu_journal.proofs.group.write_entries.Given as goal
+use Rattle.gu_journal.proofs.Vocabulary.{AllByRecursion, drop, entry_frames, IsSayableEntry, take, ◌++◌, ◌+◌, ◌≡◌}
 
 abbrev pub invariant-loop-i : goal.invariant-loop-i
 invariant-loop-i l = record {

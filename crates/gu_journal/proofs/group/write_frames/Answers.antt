@@ -1,16 +1,7 @@
-use Rattle.std.proofs.Common.{◌≡◌, ◌+◌, ◌≤◌, ◌++◌, List, ℕ, length, sym, ap, subst, ◌∙◌, arith, rules}
-use Rattle.std.proofs.Common.{inl, inr}
-use Rattle.sha2.specs.Hashers.{Holds512}
-use Rattle.sha2.specs.declared.Sha512.{Sha512}
-use Rattle.hex.specs.Hex.{IsBytes}
-use Rattle.gu_codec.specs.Writing.{message_text}
-use Rattle.gu_journal.specs.Causes.{IsStopped}
-use Rattle.gu_journal.specs.Groups.{entry_frames}
-use Rattle.gu_journal.specs.Session.{seal_with}
-use Rattle.gu_journal.specs.declared.error.JournalError.{JournalError}
-use Rattle.gu_journal.proofs.Going.{passed_on}
-use Rattle.gu_journal.proofs.Groups.{is_group_of}
 use Rattle.gu_journal.proofs.group.write_frames.Goals as goal
+use Rattle.gu_journal.proofs.{Going.passed_on, Groups.is_group_of, Vocabulary.{ap, arith, entry_frames, Holds512, inl}}
+use Rattle.gu_journal.proofs.Vocabulary.{inr, IsBytes, length, List, message_text, rules, seal_with, Sha512, subst, sym}
+use Rattle.gu_journal.proofs.Vocabulary.{ℕ, ◌++◌, ◌+◌, ◌∙◌, ◌≡◌, ◌≤◌}
 
 pub returns-clause-group : goal.returns-clause-group
 returns-clause-group c =
@@ -43,11 +34,5 @@ returns-then-not-has_room-clause-cause c len = elim (c.has_room.ensures.no (sear
 
 pub returns-in_err-write_entries-clause-cause : goal.returns-in_err-write_entries-clause-cause
 returns-in_err-write_entries-clause-cause c =
-    let house = c.args.first.house in
-    let moment = c.args.moment.now in
-    let n = c.args.first.number in
-    let es = c.args.entries.now in
-    let told : (e : JournalError) → ((len : ℕ) (hasher : Sha512) → IsStopped house moment len hasher n es e) → (len : ℕ)
-    → IsStopped house moment len c.args.hasher.now n es e = λ e is len. is len c.args.hasher.now in
-    passed_on c.from_residual.result c.in_err-write_entries.field-0.0 c.from_residual.ensures
-    c.in_err-write_entries.ensures.cause told
+    passed_on c.from_residual.result c.from_residual.ensures
+    (λ e is. rw is (λ len. c.in_err-write_entries.ensures.cause len c.args.hasher.now))

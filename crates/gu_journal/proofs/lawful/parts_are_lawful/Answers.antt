@@ -1,10 +1,6 @@
-use Rattle.std.proofs.Common.{◌≡◌, ◌+◌, ◌≤◌, ◌∷◌, drop, length, rules, subst, sym, ap, ◌∙◌}
-use Rattle.std.specs.List.{AllByRecursion}
-use Rattle.std.proofs.lemmas.List.{take_all, drop_more}
-use Rattle.gu_base.specs.declared.command.Part.{Part}
-use Rattle.gu_journal.specs.Entries.{IsNamedPart}
-use Rattle.gu_journal.proofs.Firsts.{all_more}
 use Rattle.gu_journal.proofs.lawful.parts_are_lawful.Goals as goal
+use Rattle.gu_journal.proofs.{Groups.all_more, Vocabulary.{AllByRecursion, ap, drop, drop_more, IsNamedPart, length}}
+use Rattle.gu_journal.proofs.Vocabulary.{Part, rules, subst, sym, take_all, ◌+◌, ◌∙◌, ◌∷◌, ◌≡◌, ◌≤◌}
 
 pub loop-part-preserved : goal.loop-part-preserved
 loop-part-preserved c =

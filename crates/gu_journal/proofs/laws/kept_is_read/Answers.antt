@@ -1,5 +1,5 @@
-use Rattle.gu_journal.proofs.Kept.{kept_says, kept_starts, kept_part}
 use Rattle.gu_journal.proofs.laws.kept_is_read.Goals as goal
+use Rattle.gu_journal.proofs.Kept.{kept_part, kept_says, kept_starts}
 
 pub returns-clause-read : goal.returns-clause-read
 returns-clause-read g c = λ t pin h j c' k left. kept_says g.D.Disk.seen g.D.Disk.may_leave t pin h j k c' left

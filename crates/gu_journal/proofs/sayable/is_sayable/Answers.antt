@@ -1,6 +1,5 @@
-use Rattle.std.proofs.Common.{sym, ◌∙◌}
-use Rattle.gu_journal.proofs.CanBeSaid.{lawful_from}
 use Rattle.gu_journal.proofs.sayable.is_sayable.Goals as goal
+use Rattle.gu_journal.proofs.{CanBeSaid.lawful_from, Vocabulary.{sym, ◌∙◌}}
 
 pub returns-clause-lawful : goal.returns-clause-lawful
 returns-clause-lawful c said = record {

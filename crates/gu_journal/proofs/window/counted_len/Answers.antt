@@ -1,7 +1,5 @@
-use Rattle.std.proofs.Common.{◌∙◌, ap, length}
-use Rattle.std.specs.Prelude.{unwrap_or}
-use Rattle.gu_journal.proofs.Reading.{place_of_zero}
 use Rattle.gu_journal.proofs.window.counted_len.Goals as goal
+use Rattle.gu_journal.proofs.{Reading.place_of_zero, Vocabulary.{ap, length, unwrap_or, ◌∙◌}}
 
 pub returns : goal.returns
 returns c =

@@ -1,7 +1,6 @@
-use Rattle.std.proofs.Common.{◌≤◌, ◌∙◌, ℕ, ap, length, subst, sym}
-use Rattle.std.specs.Prelude.{unwrap_or}
-use Rattle.gu_journal.proofs.Reading.{place_of_frame, frame_fits}
 use Rattle.gu_journal.proofs.window.strange_in.Goals as goal
+use Rattle.gu_journal.proofs.{Reading.{frame_fits, place_of_frame}, Vocabulary.{ap, length, subst, sym, unwrap_or, ℕ}}
+use Rattle.gu_journal.proofs.Vocabulary.{◌∙◌, ◌≤◌}
 
 pub returns-clause-value : goal.returns-clause-value
 returns-clause-value c =

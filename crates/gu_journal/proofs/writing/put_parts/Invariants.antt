@@ -1,7 +1,5 @@
-use Rattle.std.proofs.Common.{◌≡◌, ◌≤◌, ◌+◌, ◌-◌, ◌*◌, ◌++◌, length, take, drop}
-use Rattle.gu_codec.specs.Writing.{fields_text}
-use Rattle.gu_journal.specs.Entries.{parts_fields}
 use Rattle.gu_journal.proofs.writing.put_parts.Given as goal
+use Rattle.gu_journal.proofs.Vocabulary.{drop, fields_text, length, parts_fields, take, ◌*◌, ◌++◌, ◌+◌, ◌-◌, ◌≡◌, ◌≤◌}
 
 abbrev pub invariant-loop-part : goal.invariant-loop-part
 invariant-loop-part l = record {

@@ -1,93 +1,71 @@
-use Rattle.std.proofs.Common.{◌≡◌, ◌≤◌, ◌-◌, ℕ, length, ◌∙◌, ap, subst, arith, length-append}
-use Rattle.sqlite_disk.specs.Disk.{Mixed}
-use Rattle.gu_store.specs.Zeros.{zeros}
-use Rattle.gu_store.proofs.Zeroing.{zeros_behind}
-use Rattle.gu_store.proofs.Steps.{from_one, still, repairing, zero_kept}
 use Rattle.gu_store.proofs.rest.repair.Goals as goal
+use Rattle.gu_store.proofs.{Steps.{from_one, repairing, still, zero_kept}, Zeroing.zeros_behind}
+use Rattle.std.proofs.Common.{ap, arith, length, length-append, ◌-◌, ◌∙◌, ◌≤◌}
 
 pub returns-in_err-write_zeros-clause-crash : goal.returns-in_err-write_zeros-clause-crash
 returns-in_err-write_zeros-clause-crash g c before c' end has only left =
-    still before _ c' c.args.end _ (omega (arith, end)) has
-    (from_one _ _ _ _ only c.write_zeros.ensures.zeroing.crash c' left)
+    still before (omega (arith, end)) has (from_one only c.write_zeros.ensures.zeroing.crash c' left)
 
 pub returns-in_err-sync-clause-crash : goal.returns-in_err-sync-clause-crash
 returns-in_err-sync-clause-crash g c before c' end has only left =
-    still before _ c' c.args.end _ (omega (arith, end)) has
-    (from_one _ _ _ _ only c.write_zeros.ensures.zeroing.crash c' (c.sync.ensures.crash c' left))
+    still before (omega (arith, end)) has
+    (from_one only c.write_zeros.ensures.zeroing.crash c' (c.sync.ensures.crash c' left))
 
 pub returns-clause-crash : goal.returns-clause-crash
 returns-clause-crash g c before c' end has only left =
-    still before _ c' c.args.end _ (omega (arith, end)) has
-    (from_one _ _ _ _ only c.write_zeros.ensures.zeroing.crash c' (c.sync.ensures.crash c' left))
+    still before (omega (arith, end)) has
+    (from_one only c.write_zeros.ensures.zeroing.crash c' (c.sync.ensures.crash c' left))
 
 -- ---- how long it is
 
 pub returns-in_err-write_zeros-clause-few : goal.returns-in_err-write_zeros-clause-few
 returns-in_err-write_zeros-clause-few g c c' size only left =
-    let torn = from_one _ _ _ _ only c.write_zeros.ensures.zeroing.crash c' left in
+    let torn = from_one only c.write_zeros.ensures.zeroing.crash c' left in
     omega (arith, torn.no_longer, size, c.max-left.ensures, c.requires.within)
 
 pub returns-in_err-sync-clause-few : goal.returns-in_err-sync-clause-few
 returns-in_err-sync-clause-few g c c' size only left =
-    let torn = from_one _ _ _ _ only c.write_zeros.ensures.zeroing.crash c' (c.sync.ensures.crash c' left) in
+    let torn = from_one only c.write_zeros.ensures.zeroing.crash c' (c.sync.ensures.crash c' left) in
     omega (arith, torn.no_longer, size, c.max-left.ensures, c.requires.within)
 
 pub returns-clause-few : goal.returns-clause-few
 returns-clause-few g c c' size only left =
-    let torn = from_one _ _ _ _ only c.write_zeros.ensures.zeroing.crash c' (c.sync.ensures.crash c' left) in
+    let torn = from_one only c.write_zeros.ensures.zeroing.crash c' (c.sync.ensures.crash c' left) in
     omega (arith, torn.no_longer, size, c.max-left.ensures, c.requires.within)
 
 -- ---- where the device finishes each byte
 
 pub returns-in_err-write_zeros-clause-mixed : goal.returns-in_err-write_zeros-clause-mixed
 returns-in_err-write_zeros-clause-mixed g c all before front c' end size some is only left =
-    let count : c.max-left.result ≡ length (g.D.Disk.seen c.args.disk.now) - c.args.end =
-    omega (arith, c.max-left.ensures, size, some) in
-    repairing before front _ c.args.end end is c'
-    (subst (λ (n : ℕ). Mixed c.args.end (zeros n) (g.D.Disk.seen c.args.disk.now) c') count
-    (from_one _ _ _ _ only (c.write_zeros.ensures.zeroing.mixed all) c' left)) (omega (arith, some, size))
+    repairing before front end is (omega (arith, c.max-left.ensures, size))
+    (from_one only (c.write_zeros.ensures.zeroing.mixed all) c' left) (omega (arith, some, size))
 
 pub returns-in_err-sync-clause-mixed : goal.returns-in_err-sync-clause-mixed
 returns-in_err-sync-clause-mixed g c all before front c' end size some is only left =
-    let count : c.max-left.result ≡ length (g.D.Disk.seen c.args.disk.now) - c.args.end =
-    omega (arith, c.max-left.ensures, size, some) in
-    repairing before front _ c.args.end end is c'
-    (subst (λ (n : ℕ). Mixed c.args.end (zeros n) (g.D.Disk.seen c.args.disk.now) c') count
-    (from_one _ _ _ _ only (c.write_zeros.ensures.zeroing.mixed all) c' (c.sync.ensures.crash c' left)))
+    repairing before front end is (omega (arith, c.max-left.ensures, size))
+    (from_one only (c.write_zeros.ensures.zeroing.mixed all) c' (c.sync.ensures.crash c' left))
     (omega (arith, some, size))
 
 pub returns-clause-mixed : goal.returns-clause-mixed
 returns-clause-mixed g c all before front c' end size some is only left =
-    let count : c.max-left.result ≡ length (g.D.Disk.seen c.args.disk.now) - c.args.end =
-    omega (arith, c.max-left.ensures, size, some) in
-    repairing before front _ c.args.end end is c'
-    (subst (λ (n : ℕ). Mixed c.args.end (zeros n) (g.D.Disk.seen c.args.disk.now) c') count
-    (from_one _ _ _ _ only (c.write_zeros.ensures.zeroing.mixed all) c' (c.sync.ensures.crash c' left)))
+    repairing before front end is (omega (arith, c.max-left.ensures, size))
+    (from_one only (c.write_zeros.ensures.zeroing.mixed all) c' (c.sync.ensures.crash c' left))
     (omega (arith, some, size))
 
 pub returns-in_err-write_zeros-clause-zero : goal.returns-in_err-write_zeros-clause-zero
 returns-in_err-write_zeros-clause-zero g c all before c' end size has_one has only left =
-    let count : c.max-left.result ≡ length (g.D.Disk.seen c.args.disk.now) - c.args.end =
-    omega (arith, c.max-left.ensures, size, end, has_one, ap length has.1, length-append before has.0) in
-    zero_kept before has.0 _ c.args.end end has.1 c'
-    (subst (λ (n : ℕ). Mixed c.args.end (zeros n) (g.D.Disk.seen c.args.disk.now) c') count
-    (from_one _ _ _ _ only (c.write_zeros.ensures.zeroing.mixed all) c' left)) has_one
+    zero_kept before has.0 end has.1 (omega (arith, c.max-left.ensures, size))
+    (from_one only (c.write_zeros.ensures.zeroing.mixed all) c' left) has_one
 
 pub returns-in_err-sync-clause-zero : goal.returns-in_err-sync-clause-zero
 returns-in_err-sync-clause-zero g c all before c' end size has_one has only left =
-    let count : c.max-left.result ≡ length (g.D.Disk.seen c.args.disk.now) - c.args.end =
-    omega (arith, c.max-left.ensures, size, end, has_one, ap length has.1, length-append before has.0) in
-    zero_kept before has.0 _ c.args.end end has.1 c'
-    (subst (λ (n : ℕ). Mixed c.args.end (zeros n) (g.D.Disk.seen c.args.disk.now) c') count
-    (from_one _ _ _ _ only (c.write_zeros.ensures.zeroing.mixed all) c' (c.sync.ensures.crash c' left))) has_one
+    zero_kept before has.0 end has.1 (omega (arith, c.max-left.ensures, size))
+    (from_one only (c.write_zeros.ensures.zeroing.mixed all) c' (c.sync.ensures.crash c' left)) has_one
 
 pub returns-clause-zero : goal.returns-clause-zero
 returns-clause-zero g c all before c' end size has_one has only left =
-    let count : c.max-left.result ≡ length (g.D.Disk.seen c.args.disk.now) - c.args.end =
-    omega (arith, c.max-left.ensures, size, end, has_one, ap length has.1, length-append before has.0) in
-    zero_kept before has.0 _ c.args.end end has.1 c'
-    (subst (λ (n : ℕ). Mixed c.args.end (zeros n) (g.D.Disk.seen c.args.disk.now) c') count
-    (from_one _ _ _ _ only (c.write_zeros.ensures.zeroing.mixed all) c' (c.sync.ensures.crash c' left))) has_one
+    zero_kept before has.0 end has.1 (omega (arith, c.max-left.ensures, size))
+    (from_one only (c.write_zeros.ensures.zeroing.mixed all) c' (c.sync.ensures.crash c' left)) has_one
 
 -- ---- at rest again
 

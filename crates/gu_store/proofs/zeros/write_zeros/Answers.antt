@@ -1,6 +1,6 @@
-use Rattle.std.proofs.Common.{◌<◌, ◌≤◌, ◌+◌, ◌∙◌, arith}
-use Rattle.gu_store.proofs.Zeroing.{zeroing_wider, zeroing_twice, holds_twice}
 use Rattle.gu_store.proofs.zeros.write_zeros.Goals as goal
+use Rattle.gu_store.proofs.Zeroing.{holds_twice, zeroing_twice, zeroing_wider}
+use Rattle.std.proofs.Common.{arith, ◌+◌, ◌<◌, ◌∙◌, ◌≤◌}
 
 pub returns-in_err-write_piece-clause-zeroing : goal.returns-in_err-write_piece-clause-zeroing
 returns-in_err-write_piece-clause-zeroing g c =

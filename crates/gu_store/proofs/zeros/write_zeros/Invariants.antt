@@ -1,7 +1,7 @@
-use Rattle.std.proofs.Common.{◌≡◌, ◌<◌, ◌≤◌, ◌-◌, IsTrue}
-use Rattle.sqlite_disk.specs.Disk.{Holds}
-use Rattle.gu_store.specs.Zeros.{zeros, IsZeroing}
 use Rattle.gu_store.proofs.zeros.write_zeros.Given as goal
+use Rattle.gu_store.specs.Zeros.{IsZeroing, zeros}
+use Rattle.sqlite_disk.specs.Disk.{Holds}
+use Rattle.std.proofs.Common.{IsTrue, ◌-◌, ◌<◌, ◌≡◌, ◌≤◌}
 
 abbrev pub invariant-loop-done : goal.invariant-loop-done
 invariant-loop-done g l = record {

@@ -1,6 +1,5 @@
-use Rattle.gu_journal.proofs.Going.{on_err}
-use Rattle.gu_journal.proofs.Reasons.{unadded_refused}
 use Rattle.gu_journal.proofs.replay.Replay.take_message.Goals as goal
+use Rattle.gu_journal.proofs.{Going.on_err, Reasons.unadded_refused}
 
 pub returns-in_default-clause-cause : goal.returns-in_default-clause-cause
 returns-in_default-clause-cause c =

@@ -1,7 +1,5 @@
-use Rattle.std.proofs.Common.{◌≡◌, ◌+◌, ℕ, ap, drop, subst, sym}
-use Rattle.gu_journal.specs.Held.{Held}
-use Rattle.gu_journal.proofs.Reading.{strange_within, passed_to}
 use Rattle.gu_journal.proofs.window.Window.pass_to_frame.Goals as goal
+use Rattle.gu_journal.proofs.{Reading.{passed_to, strange_within}, Vocabulary.{ap, drop, Held, subst, sym, ℕ, ◌+◌, ◌≡◌}}
 
 pub returns-clause-within : goal.returns-clause-within
 returns-clause-within c = strange_within c.args.self.now.bytes c.requires.some

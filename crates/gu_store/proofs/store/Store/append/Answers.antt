@@ -1,5 +1,5 @@
-use Rattle.gu_store.proofs.Steps.{left_laying, zero_laying}
 use Rattle.gu_store.proofs.store.Store.append.Goals as goal
+use Rattle.gu_store.proofs.Steps.{left_laying, zero_laying}
 
 pub returns-in_err-lay-clause-mixed : goal.returns-in_err-lay-clause-mixed
 returns-in_err-lay-clause-mixed g c all before c' rest left =
