@@ -9,7 +9,7 @@ use crate::times::Taken;
 use gu_base::{AllocId, Answer, Entry, FirmId, Memory, Number};
 use gu_book::Book;
 use gu_command::MOST_WORKERS;
-use gu_limits::{Size, fills_group};
+use gu_limits::{Limits, Size, fills_group};
 use gu_log::{Event, Field, Key, Value};
 use gu_message::Reject;
 use gu_parties::House;
@@ -30,6 +30,9 @@ const MOST_STILL: u64 = 5;
 /// From how many microseconds on the disk is slow with a group.
 const SLOW_SYNC: u64 = 100_000;
 
+/// How many bytes of memory the book may take for each of MEMORY.
+const MEGABYTE: u64 = 1_000_000;
+
 /// What is counted.
 #[derive(Drop)]
 pub struct Board {
@@ -38,8 +41,8 @@ pub struct Board {
     logs_calls: bool,
     /// What an operator has said.
     instructions: Instructions,
-    /// How many entries a firm may make, if that is limited.
-    share: Option<u32>,
+    /// What firms may have.
+    limits: Limits,
     /// The entries of each firm, in the order of the house file.
     firms: IndexMap<FirmId, AtomicU64>,
     cells: Vec<Cell>,
@@ -137,14 +140,14 @@ impl Board {
         logs_calls: bool,
         house: &House,
         workers: u32,
-        share: Option<u32>,
+        limits: Limits,
     ) -> Result<Board, Memory> {
         Ok(Board {
             alloc,
             log,
             logs_calls,
             instructions: Instructions::new(alloc, house)?,
-            share,
+            limits,
             firms: firms_of(alloc, house)?,
             cells: cells_for(alloc, workers)?,
             second: AtomicU64::new(0),
@@ -475,7 +478,7 @@ impl Board {
 
     /// Warns where a firm has used most of what it may.
     fn warn_of_share<R: Wait + Clock>(&self, rt: &R, firm: &FirmId, before: u64, after: u64) {
-        let Some(most) = self.share else {
+        let Some(most) = self.limits.most_entries else {
             return;
         };
         if let Some(percent) = mark_passed(small(before), small(after), most) {
@@ -672,6 +675,7 @@ impl Board {
             firms.push(FirmEntries {
                 firm: *firm,
                 entries,
+                is_refused: self.instructions.of(firm).refused,
             })?;
         }
         let mut refused = [0u64; REASONS];
@@ -686,7 +690,9 @@ impl Board {
             stuck: self.unhealthy(),
             entries: small(load(&self.entries)),
             most_entries: Number::MAX,
+            reserved: self.limits.reserve.unwrap_or(0),
             book_bytes: self.size().memory(),
+            most_bytes: u64::from(self.limits.memory.unwrap_or(0)) * MEGABYTE,
             journal_bytes: load(&self.journal_bytes),
             lacks_memory: self.lacks_memory(),
             firms,

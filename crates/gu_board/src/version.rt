@@ -5,8 +5,8 @@ use std::fs::File;
 use std::io::{Read, Seek, SeekFrom};
 use std::rt::Files;
 
-/// The profile's version, and the logic of the kit that proves the program.
-pub const VERSION: &str = "profile 2, logic dac8208d650f15bf";
+/// The program's version, the profile's, and the logic of the kit that proves the program.
+pub const VERSION: &str = "1.0.0, profile 2, logic dac8208d650f15bf";
 
 /// The file of the program that runs.
 const OWN_FILE: &str = "/proc/self/exe";

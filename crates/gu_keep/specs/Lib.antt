@@ -1,2 +1,3 @@
+pub mod Archived
 pub mod Keeping
 pub mod Sending

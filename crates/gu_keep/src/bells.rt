@@ -3,9 +3,12 @@
 use crate::news::NewsBoard;
 use crate::shutter::Shutters;
 use crate::words::Words;
+use gu_archive::{Archive, ArchiveError, Hours};
+use gu_command::KeepError;
 use mio::Waker;
-use std::sync::Arc;
+use std::alloc::Global;
 use std::sync::atomic::{AtomicBool, AtomicU64, Ordering};
+use std::sync::{Arc, Wait};
 
 /// What a worker is woken by.
 #[derive(Drop)]
@@ -37,6 +40,28 @@ pub(crate) struct Bells {
     pub(crate) news: NewsBoard,
     /// What the watch can shut of connections.
     pub(crate) shutters: Arc<Shutters>,
+    /// Where a worker's files of the archive come from, where there is one.
+    pub(crate) hours: Option<Arc<Hours>>,
+}
+
+/// What a server tells of a fault of its archive.
+pub(crate) fn archive_fault(error: ArchiveError) -> KeepError {
+    match error {
+        ArchiveError::Memory => KeepError::Memory,
+        ArchiveError::Clock => KeepError::Clock,
+        ArchiveError::Disk(error) => KeepError::Archive(error),
+    }
+}
+
+/// One more hold on the archive's hours, where there is one.
+pub(crate) fn share_hours(hours: &Option<Arc<Hours>>) -> Result<Option<Arc<Hours>>, KeepError> {
+    let Some(hours) = hours else {
+        return Ok(None);
+    };
+    match Arc::try_clone(hours) {
+        Ok(hours) => Ok(Some(hours)),
+        Err(_) => Err(KeepError::Memory),
+    }
 }
 
 impl Bell {
@@ -54,6 +79,22 @@ impl Bell {
 }
 
 impl Bells {
+    /// The end of the archive for the worker at this place, where there is one.
+    pub(crate) fn open_archive<R: Wait>(
+        &self,
+        rt: &R,
+        alloc: Global,
+        at: usize,
+    ) -> Result<Option<Archive>, KeepError> {
+        let Some(hours) = share_hours(&self.hours)? else {
+            return Ok(None);
+        };
+        match Archive::open(rt, alloc, hours, at) {
+            Ok(archive) => Ok(Some(archive)),
+            Err(error) => Err(archive_fault(error)),
+        }
+    }
+
     /// Wakes the workers that wait until more is kept.
     pub(crate) fn ring_waiting(&self) {
         for bell in self.workers.as_slice() {

@@ -6,10 +6,12 @@ ghost use Rattle.gu_desk.specs.Begins.{BeginsWith};
 ghost use Rattle.gu_keep.specs.Sending.{Adds, Beats, IsBeat, IsStill, Turns};
 ghost use Rattle.gu_recorder.specs.Waiting.{Holds, Sends};
 
+use crate::archiving::{Archiving, Heard};
 use crate::lingering::MOST_READS;
 use crate::shares::place_of;
 use crate::stranger::Stranger;
 use crate::visit::Visit;
+use gu_archive::{Archive, Tap};
 use gu_base::FirmId;
 use gu_board::Tallies;
 use gu_connection::{
@@ -19,6 +21,7 @@ use gu_desk::{Gate, Job, Seat};
 use gu_limits::{Ending, is_silent};
 use gu_recorder::{Outbox, Rest, Wire};
 use gu_session::Gap;
+use std::mem::replace;
 use std::sync::Wait;
 use std::time::{Clock, Instant};
 
@@ -48,7 +51,8 @@ impl Beside {
 /// A connection, what it is to be sent, and how it stands.
 #[derive(Drop)]
 pub(crate) struct Client<'a, J: Job> {
-    pub(crate) wire: Wire,
+    /// Its stream, but while a turn has it.
+    pub(crate) wire: Option<Wire>,
     connection: Connection<'a>,
     outbox: Outbox<J>,
     taken: Instant,
@@ -118,7 +122,7 @@ pub(crate) fn open_client<'a, J: Job, R, G>(
         visit,
     } = stranger;
     Ok(Client {
-        wire,
+        wire: Some(wire),
         connection,
         outbox: Outbox::new(worker.alloc, worker.desk, seat),
         taken,
@@ -367,7 +371,7 @@ impl<'a, J: Job> Client<'a, J> {
     }
 
     /// Its stream alone.
-    pub(crate) fn into_wire(self) -> Wire {
+    pub(crate) fn into_wire(self) -> Option<Wire> {
         let Client { wire, .. } = self;
         wire
     }
@@ -639,11 +643,110 @@ impl<'a, J: Job> Client<'a, J> {
     }
 
     /// Throws away what has come, where it has ended.
-    fn drain(&mut self)
+    fn drain<R: Wait + Clock, G>(
+        &mut self,
+        worker: &Worker<'a, J, R, G>,
+        archive: &mut Option<Archive>,
+    )
         ensures { self.new.outbox ≡ self.old.outbox }
     {
-        if self.ended {
-            let _ = read_away(&mut self.wire, MOST_READS);
+        if !self.ended {
+            return;
+        }
+        if let Some(mut heard) = self.lend(worker, archive) {
+            let _ = read_away(&mut heard, MOST_READS);
+            self.take_back(heard, archive);
+        }
+    }
+
+    /// Lends the archive to whoever sends, with what that keeps of the connection.
+    fn archiving<R, G>(
+        &mut self,
+        worker: &Worker<'a, J, R, G>,
+        archive: &mut Option<Archive>,
+    ) -> Archiving<'a, R>
+        ensures outbox { self.new.outbox ≡ self.old.outbox }
+        ensures connection { self.new.connection ≡ self.old.connection }
+        ensures ended { self.new.ended ≡ self.old.ended }
+    {
+        Archiving {
+            rt: worker.rt,
+            archive: archive.take(),
+            tap: replace(&mut self.visit.tap, Tap::new(worker.alloc, 0)),
+        }
+    }
+
+    /// Lends the stream to whoever reads it, and the archive. None where another has it.
+    fn lend<R, G>(
+        &mut self,
+        worker: &Worker<'a, J, R, G>,
+        archive: &mut Option<Archive>,
+    ) -> Option<Heard<'a, R>>
+        ensures outbox { self.new.outbox ≡ self.old.outbox }
+        ensures connection { self.new.connection ≡ self.old.connection }
+        ensures ended { self.new.ended ≡ self.old.ended }
+    {
+        let wire = self.wire.take()?;
+        let Archiving { rt, archive, tap } = self.archiving(worker, archive);
+        Some(Heard {
+            rt,
+            alloc: worker.alloc,
+            archive,
+            tap,
+            wire,
+        })
+    }
+
+    /// Takes back what was lent.
+    fn take_back<R>(&mut self, heard: Heard<'_, R>, archive: &mut Option<Archive>)
+        ensures outbox { self.new.outbox ≡ self.old.outbox }
+        ensures connection { self.new.connection ≡ self.old.connection }
+        ensures ended { self.new.ended ≡ self.old.ended }
+    {
+        let Heard {
+            archive: lent,
+            tap,
+            wire,
+            ..
+        } = heard;
+        self.wire = Some(wire);
+        *archive = lent;
+        self.visit.tap = tap;
+    }
+
+    /// Takes back the archive, and what that keeps of the connection.
+    fn end_archiving<R>(&mut self, to: Archiving<'_, R>, archive: &mut Option<Archive>)
+        ensures outbox { self.new.outbox ≡ self.old.outbox }
+        ensures connection { self.new.connection ≡ self.old.connection }
+        ensures ended { self.new.ended ≡ self.old.ended }
+    {
+        let Archiving {
+            archive: lent,
+            tap,
+            ..
+        } = to;
+        *archive = lent;
+        self.visit.tap = tap;
+    }
+
+    /// Puts the connection's end into the archive, where there is one, and why it ends, which it
+    /// knows itself where no reason is given.
+    pub(crate) fn close_archived<R: Wait + Clock, G>(
+        &mut self,
+        worker: &Worker<'a, J, R, G>,
+        archive: &mut Option<Archive>,
+        why: Option<&'static str>,
+    )
+        ensures { self.new.outbox ≡ self.old.outbox }
+    {
+        if let Some(archive) = archive {
+            let Worker {
+                rt,
+                alloc,
+                house,
+                ..
+            } = worker;
+            self.visit.closes(*rt, *alloc, archive, house, why);
         }
     }
 
@@ -655,6 +758,7 @@ impl<'a, J: Job> Client<'a, J> {
         piece: &mut [u8],
         second: u64,
         span: Span,
+        archive: &mut Option<Archive>,
     ) -> Seat<J>
         ensures later { BeginsWith result.seen seat.seen }
         ensures same { self.new.outbox ≡ self.old.outbox }
@@ -662,14 +766,19 @@ impl<'a, J: Job> Client<'a, J> {
             → IsStill J.opening self.old.connection self.new.connection }
     {
         self.begin_turn(second);
+        let Some(mut heard) = self.lend(worker, archive) else {
+            self.ended = true;
+            return seat;
+        };
         let (seat, turned) = worker.turn(
             seat,
             &mut self.connection,
-            &mut self.wire,
+            &mut heard,
             piece,
             self.left,
             Some(span),
         );
+        self.take_back(heard, archive);
         match turned {
             Ok(left) => {
                 self.left = self.left_by(left);
@@ -690,6 +799,7 @@ impl<'a, J: Job> Client<'a, J> {
         piece: &mut [u8],
         second: u64,
         span: Span,
+        archive: &mut Option<Archive>,
     ) -> Seat<J>
         ensures later { BeginsWith result.seen seat.seen }
         ensures turns { Turns J.opening self.old.connection self.old.outbox self.new.outbox
@@ -697,12 +807,12 @@ impl<'a, J: Job> Client<'a, J> {
     {
         self.give_back(worker.tallies);
         if !self.may_turn() {
-            self.drain();
+            self.drain(worker, archive);
             return seat;
         }
         let is_clear = self.is_clear();
         self.connection.begin_turn();
-        let mut seat = self.work(worker, seat, piece, second, span);
+        let mut seat = self.work(worker, seat, piece, second, span, archive);
         if is_clear && !self.ended && !self.connection.tells() {
             self.hold_still(second);
         } else {
@@ -711,11 +821,13 @@ impl<'a, J: Job> Client<'a, J> {
         seat
     }
 
-    /// Sends what may go out. What is left, or `Err` where it is to be closed.
-    pub(crate) fn send<R, G>(
+    /// Sends what may go out, once it is in the archive. What is left, or `Err` where it is to be
+    /// closed.
+    pub(crate) fn send<R: Wait + Clock, G>(
         &mut self,
         worker: &Worker<'a, J, R, G>,
         second: u64,
+        archive: &mut Option<Archive>,
     ) -> Result<Rest, Closed>
         ensures { Sends self.old.outbox self.new.outbox }
     {
@@ -728,7 +840,13 @@ impl<'a, J: Job> Client<'a, J> {
         }
         self.tried = true;
         let before = self.outbox.len();
-        let rest = self.outbox.send(worker.desk, &self.wire)?;
+        let mut to = self.archiving(worker, archive);
+        let sent = match &self.wire {
+            Some(wire) => self.outbox.send(worker.desk, wire, &mut to),
+            None => Err(Closed),
+        };
+        self.end_archiving(to, archive);
+        let rest = sent?;
         if self.outbox.len() < before || rest == Rest::Unkept {
             self.took = second;
         }

@@ -5,7 +5,9 @@ use crate::lingering::{Lingering, MOST_LINGERING};
 use crate::news::NewsBoard;
 use crate::shares::Shares;
 use crate::stranger::Stranger;
+use gu_archive::Archive;
 use gu_base::FirmId;
+use gu_command::KeepError;
 use gu_connection::Closed;
 use gu_desk::Job;
 use gu_parties::House;
@@ -44,6 +46,8 @@ pub(crate) struct Clients<'a, J: Job> {
     late: Vec<usize>,
     /// What each firm has had in this round.
     pub(crate) shares: Shares,
+    /// The worker's end of the archive, where there is one.
+    pub(crate) archive: Option<Archive>,
     /// The streams of those that have ended, in the order in which they did.
     lingering: VecDeque<Lingering>,
     /// For how many seconds one lingers at the most, where the server stops.
@@ -81,6 +85,7 @@ impl<'a, J: Job> Clients<'a, J> {
             passed_over: Vec::new(alloc),
             late: Vec::new(alloc),
             shares: Shares::new(alloc, house),
+            archive: None,
             lingering: VecDeque::new(alloc),
             most_lingering: None,
             second: 0,
@@ -88,6 +93,24 @@ impl<'a, J: Job> Clients<'a, J> {
             news,
             worker,
             of_firms: Vec::new(alloc),
+        }
+    }
+
+    /// The error of the archive, once one has come: nothing goes on then.
+    pub(crate) fn archived(&self) -> Result<(), KeepError> {
+        match &self.archive {
+            Some(archive) => match archive.failed() {
+                Some(error) => Err(KeepError::Archive(error)),
+                None => Ok(()),
+            },
+            None => Ok(()),
+        }
+    }
+
+    /// Brings what was archived to the disk.
+    pub(crate) fn sync_archive(&mut self) {
+        if let Some(archive) = &mut self.archive {
+            let _ = archive.sync();
         }
     }
 
@@ -509,7 +532,12 @@ impl<'a, J: Job> Clients<'a, J> {
         // The system drops the descriptor from the poll when it is closed.
         if client.lingers() {
             let wait = client.linger_wait();
-            self.linger(at, client.into_wire(), second, wait);
+            match client.into_wire() {
+                Some(wire) => self.linger(at, wire, second, wait),
+                None => {
+                    let _ = self.free.push(at);
+                }
+            }
         } else {
             drop(client);
             let _ = self.free.push(at);

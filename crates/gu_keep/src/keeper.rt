@@ -80,6 +80,24 @@ struct Round<J: Job> {
     asked_for: u32,
 }
 
+impl<J: Job> Round<J> {
+    /// Before the first round, now, with room to read and a ticket.
+    fn new(piece: Vec<u8>, now: Instant, newest: Ticket<J>) -> Round<J> {
+        Round {
+            woken: false,
+            piece,
+            millis: 0,
+            second: 0,
+            late_asked: 0,
+            rang: 0,
+            stops: None,
+            now,
+            newest,
+            asked_for: 0,
+        }
+    }
+}
+
 /// Notes which connections are ready, and whether the worker was woken.
 fn note<J: Job>(events: &Events, clients: &mut Clients<'_, J>, round: &mut Round<J>) {
     clients.ready.clear();
@@ -276,6 +294,7 @@ impl<'a, K: OpenJournal, J: Job, R: Wait + Clock, G: Gate> Keeper<'a, K, J, R, G
         }
         if let Some(Some(client)) = clients.places.get_mut(at) {
             client.leave(self.worker.tallies);
+            client.close_archived(&self.worker, &mut clients.archive, why);
             self.say_end(client, second, why);
             self.let_go(client);
         }
@@ -297,8 +316,11 @@ impl<'a, K: OpenJournal, J: Job, R: Wait + Clock, G: Gate> Keeper<'a, K, J, R, G
 
     /// Has the watch hold the stream of a client on which a firm has logged on.
     fn hold(&self, client: &mut Client<'a, J>) {
-        if client.beside.shutter.is_none() && client.firm().is_some() {
-            client.beside.shutter = self.bells.shutters.hold(self.worker.rt, &client.wire);
+        if client.beside.shutter.is_some() || client.firm().is_none() {
+            return;
+        }
+        if let Some(wire) = &client.wire {
+            client.beside.shutter = self.bells.shutters.hold(self.worker.rt, wire);
         }
     }
 
@@ -365,7 +387,8 @@ impl<'a, K: OpenJournal, J: Job, R: Wait + Clock, G: Gate> Keeper<'a, K, J, R, G
         let mut seat = seat;
         if let Some(Some(client)) = clients.places.get_mut(at) {
             let before = self.begin_turn(client);
-            seat = client.turn(&self.worker, seat, &mut round.piece, second, span);
+            let archive = &mut clients.archive;
+            seat = client.turn(&self.worker, seat, &mut round.piece, second, span, archive);
             self.end_turn(client, before, &round.piece, second);
             over = client.is_over();
             let end = Instant::now(self.worker.rt).ok();
@@ -509,6 +532,7 @@ impl<'a, K: OpenJournal, J: Job, R: Wait + Clock, G: Gate> Keeper<'a, K, J, R, G
         let mut seat = seat;
         let second = round.second;
         clients.begin_second(second);
+        clients.sync_archive();
         self.heed(&mut seat, clients, second);
         for at in 0..clients.places.len() {
             self.end_stalled(clients, second, at);
@@ -579,7 +603,8 @@ impl<'a, K: OpenJournal, J: Job, R: Wait + Clock, G: Gate> Keeper<'a, K, J, R, G
         let mut over = false;
         if let Some(Some(client)) = clients.places.get_mut(at) {
             let before = client.waiting();
-            over = client.send(&self.worker, second).is_err();
+            let archive = &mut clients.archive;
+            over = client.send(&self.worker, second, archive).is_err();
             self.count_sent(client, before);
         }
         if over {
@@ -735,7 +760,9 @@ impl<'a, K: OpenJournal, J: Job, R: Wait + Clock, G: Gate> Keeper<'a, K, J, R, G
             self.stop(&mut mine, clients, round);
             round.newest = self.worker.desk.ticket(&mut mine);
             *seat = Some(mine);
+            clients.archived()?;
             self.tell(clients, round)?;
+            clients.archived()?;
             self.hear(clients);
             if !coming && clients.is_empty() {
                 return Ok(());
@@ -764,22 +791,21 @@ impl<'a, K: OpenJournal, J: Job, R: Wait + Clock, G: Gate> Keeper<'a, K, J, R, G
         let Some(now) = self.worker.tallies.start() else {
             return (Some(seat), Err(KeepError::Clock));
         };
-        let mut round = Round {
-            woken: false,
-            piece,
-            millis: 0,
-            second: 0,
-            late_asked: 0,
-            rang: 0,
-            stops: None,
-            now,
-            newest,
-            asked_for: 0,
-        };
+        let mut round = Round::new(piece, now, newest);
         let house = self.worker.house;
         let mut clients = Clients::new(alloc, house, &self.bells.news, self.bell.at);
         let mut seat = Some(seat);
-        let served = self.serve(&mut poll, &mut events, &mut seat, &mut clients, &mut round);
+        let served = match self
+            .bells
+            .open_archive(self.worker.rt, alloc, self.bell.at as usize)
+        {
+            Ok(archive) => {
+                clients.archive = archive;
+                self.serve(&mut poll, &mut events, &mut seat, &mut clients, &mut round)
+            }
+            Err(error) => Err(error),
+        };
+        clients.sync_archive();
         if served.is_err() {
             self.bells.end();
         }

@@ -10,11 +10,14 @@
 //! - The watch ends a server of which a part stands still, also in its start. It shuts the listener
 //!   and the sessions first, so that a process that can't end holds no port and no firm.
 //! - The pages of `--status` are answered on threads of their own, many at a time.
+//! - Where there is an archive each frame that came stands in it before it is looked at, and each
+//!   that is sent before it goes out. A folder that can't be written to ends the server.
 //! - The totals are written when all connections have ended, and then the log says that the program
 //!   ends.
 #![tactic(auto)]
 
 mod accepting;
+mod archiving;
 mod bells;
 mod client;
 mod clients;

@@ -7,6 +7,7 @@ use crate::news::NewsBoard;
 use crate::shutter::Shutters;
 use crate::words::Words;
 use crossbeam_channel::Sender;
+use gu_archive::Hours;
 use gu_command::KeepError;
 use gu_connection::Worker;
 use gu_desk::{Gate, Job, Seat};
@@ -30,14 +31,15 @@ type Done<J> = (Option<Seat<J>>, Result<(), KeepError>);
 /// and of the journal's.
 pub(crate) type Polls = (Bells, Vec<Poll>, Poll, Poll);
 
-/// The polls of so many workers, who need the words of other machines or don't, and what the watch
-/// can shut of their connections.
+/// The polls of so many workers, who need the words of other machines or don't, what the watch can
+/// shut of their connections, and where their files of the archive come from, if there is one.
 pub(crate) fn make_polls<R: Net + Clock>(
     rt: &R,
     alloc: Global,
     workers: u32,
     need_words: bool,
     shutters: Arc<Shutters>,
+    hours: Option<Arc<Hours>>,
 ) -> Result<Polls, KeepError> {
     let words = Words::new(rt, need_words)?;
     let mut bells: Vec<Bell> = Vec::new(alloc);
@@ -65,6 +67,7 @@ pub(crate) fn make_polls<R: Net + Clock>(
         words,
         news: NewsBoard::new(alloc),
         shutters,
+        hours,
     };
     Ok((bells, polls, poll, journals))
 }

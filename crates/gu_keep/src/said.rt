@@ -88,7 +88,18 @@ pub(crate) fn text_of_cause(cause: Cause) -> &'static str {
         Cause::Encryption => "98 is not 0",
         Cause::Version => "1137 is not 9",
         Cause::Logon => "the Logon is not understood",
+        Cause::Book => "5005 or 5006 is not one of this book",
         Cause::LoggedOut => "logged out",
+    }
+}
+
+/// The cause that stands for what a Logout says. Where that is of LastReportNumber (5005) or of
+/// BookName (5006), it says so.
+pub(crate) fn cause_of_logout(said: &str) -> Cause {
+    if said == "another book" || said.starts_with("5005") || said.starts_with("5006") {
+        Cause::Book
+    } else {
+        Cause::LoggedOut
     }
 }
 

@@ -2,6 +2,7 @@
 //! nothing else.
 
 use crossbeam_channel::Sender;
+use gu_archive::Hours;
 use gu_board::Board;
 use gu_recorder::{Shutter, Wire};
 use std::alloc::Global;
@@ -106,10 +107,12 @@ impl Shutters {
     }
 }
 
-/// What a server hands to the watch: what is counted of it, and what the watch can shut.
+/// What a server hands to the watch: what is counted of it, and what the watch can shut; and what
+/// the watch hands to it: where its files of the archive come from, if there is one.
 #[derive(Drop)]
 pub(crate) struct Watched {
     pub(crate) board: Arc<Board>,
     pub(crate) to: Sender<Shutter>,
     pub(crate) shutters: Arc<Shutters>,
+    pub(crate) hours: Option<Arc<Hours>>,
 }

@@ -8,6 +8,7 @@ ghost use Rattle.gu_desk.specs.Views.{is_worker_count};
 ghost use Rattle.gu_command.specs.Faults.{is_keep_fault};
 ghost use Rattle.gu_connection.specs.Serving.{IsServed};
 
+use crate::bells::share_hours;
 use crate::running::{Polls, make_polls};
 use crate::shutter::Watched;
 use crate::threads::run_threads;
@@ -168,7 +169,13 @@ fn listen<R: Net + Wait + Clock>(
     let Ok(shutters) = Arc::try_clone(&watched.shutters) else {
         return Err(KeepError::Memory);
     };
-    match make_polls(rt, alloc, request.workers, request.is_replicated, shutters) {
+    let hours = share_hours(&watched.hours)?;
+    let Request {
+        workers,
+        is_replicated,
+        ..
+    } = request;
+    match make_polls(rt, alloc, workers, is_replicated, shutters, hours) {
         Ok(polls) => Ok(Entrance { listener, polls }),
         Err(error) => Err(error),
     }
@@ -254,13 +261,14 @@ fn serve_kept<K: OpenJournal + Drop + Send, R: Threads + Wait + Clock + Net + Sy
     serve_listener(rt, alloc, entrance, book, journal, request, &watched.board)
 }
 
-/// The fault of a server whose journal is at this path.
-fn fault_of(alloc: Global, path: &str, error: KeepError) -> Fault
+/// The fault of a server that was asked for by an order: of its journal, or its archive.
+pub(crate) fn fault_of(alloc: Global, order: &Order, error: KeepError) -> Fault
     ensures { IsTrue (is_keep_fault result) }
 {
-    match error {
-        KeepError::Record(cause) => fault_at(alloc, path, cause),
-        other => Fault::Keep(other),
+    match (error, &order.options.archive) {
+        (KeepError::Record(cause), _) => fault_at(alloc, order.journal.as_str(), cause),
+        (KeepError::Archive(_), Some(folder)) => fault_at(alloc, folder.as_str(), error),
+        (other, _) => Fault::Keep(other),
     }
 }
 
@@ -371,6 +379,6 @@ pub(crate) fn keep_port<R: Threads + Wait + Clock + Net + RandomSource + Sync, K
     };
     match serve_kept::<K::Journal, R>(rt, alloc, book, journal, request, watched) {
         Ok(book) => Ok(book),
-        Err(error) => Err(fault_of(alloc, order.journal.as_str(), error)),
+        Err(error) => Err(fault_of(alloc, order, error)),
     }
 }

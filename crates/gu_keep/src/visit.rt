@@ -1,6 +1,7 @@
 //! What an operator is told of a connection.
 
-use crate::said::{said_by, said_last, text_of_cause, why_refused};
+use crate::said::{cause_of_logout, said_by, said_last, text_of_cause, why_refused};
+use gu_archive::{Archive, Tap};
 use gu_base::FirmId;
 use gu_board::{Board, Work, number, text};
 use gu_log::{Event, Key};
@@ -9,6 +10,7 @@ use gu_recorder::Wire;
 use gu_session::Gap;
 use gu_status::{Cause, REASONS, REJECT_REASONS, REJECTS, SeenGap, is_due, seen_gap};
 use std::alloc::Global;
+use std::mem::replace;
 use std::sync::Wait;
 use std::time::Clock;
 
@@ -31,6 +33,8 @@ pub(crate) struct Visit {
     sent: u64,
     /// The gap in what its firm sends, if one was open when that was last looked at.
     gap: Option<SeenGap>,
+    /// What an archive keeps of it.
+    pub(crate) tap: Tap,
     /// Its first bytes, while it has no Logon.
     first: Vec<u8>,
     /// Whether the Logon was told.
@@ -40,7 +44,7 @@ pub(crate) struct Visit {
 }
 
 /// The address of a peer, in words.
-fn peer_of(alloc: Global, wire: &Wire) -> String {
+pub(crate) fn peer_of(alloc: Global, wire: &Wire) -> String {
     if let Ok(peer) = wire.peer_addr() {
         if let Ok(text) = format!(in alloc; "{peer}") {
             return text;
@@ -95,6 +99,7 @@ impl Visit {
             rejects: [0; REJECTS],
             sent: 0,
             gap: None,
+            tap: Tap::new(alloc, number),
             first: Vec::new(alloc),
             is_told: false,
             why: String::new(alloc),
@@ -147,6 +152,38 @@ impl Visit {
             "the session has ended"
         } else {
             self.why.as_str()
+        }
+    }
+
+    /// Why no Logon was accepted on it, and what is said of that.
+    fn refusal(&self, house: &House) -> (Cause, &str) {
+        if self.why.is_empty() {
+            let cause = why_refused(house, self.first.as_slice());
+            (cause, text_of_cause(cause))
+        } else {
+            (cause_of_logout(self.why.as_str()), self.why.as_str())
+        }
+    }
+
+    /// Puts its end into an archive, and why it ends.
+    pub(crate) fn closes<R: Wait + Clock>(
+        &mut self,
+        rt: &R,
+        alloc: Global,
+        archive: &mut Archive,
+        house: &House,
+        why: Option<&'static str>,
+    ) {
+        let mut tap = replace(&mut self.tap, Tap::new(alloc, self.number));
+        let _ = archive.closes(rt, &mut tap, self.ending(house, why));
+    }
+
+    /// Why it has ended, which it knows itself where no reason is given.
+    fn ending(&self, house: &House, why: Option<&'static str>) -> &str {
+        match why {
+            _ if !self.is_told => self.refusal(house).1,
+            Some(why) => why,
+            None => self.why(),
         }
     }
 
@@ -211,7 +248,8 @@ impl Visit {
         self.gap = Some(seen);
     }
 
-    /// Says that it has ended in this second without a Logon that was accepted, and why.
+    /// Says that it has ended in this second without a Logon that was accepted, and why. That a
+    /// peer came and went without a byte is counted alone.
     pub(crate) fn say_refusal<R: Wait + Clock>(
         &self,
         rt: &R,
@@ -220,17 +258,11 @@ impl Visit {
         second: u64,
     ) {
         let first = self.first.as_slice();
-        let cause = if self.why.is_empty() {
-            why_refused(house, first)
-        } else {
-            Cause::LoggedOut
-        };
-        let why = if self.why.is_empty() {
-            text_of_cause(cause)
-        } else {
-            self.why.as_str()
-        };
+        let (cause, why) = self.refusal(house);
         board.refuses_logon(cause);
+        if cause == Cause::NoMessage && self.is_gone() {
+            return;
+        }
         let fields = [
             number(Key::Connection, self.number),
             text(Key::Peer, self.peer.as_bytes()),

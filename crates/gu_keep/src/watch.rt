@@ -11,11 +11,13 @@ ghost use Rattle.gu_command.specs.Faults.{is_keep_fault};
 ghost use Rattle.gu_connection.specs.Serving.{IsServed};
 ghost use Rattle.gu_keep.specs.Keeping.{Keeps};
 
+use crate::bells::{archive_fault, share_hours};
 use crate::pages::listen_at;
 use crate::shutter::{Shutters, Watched};
-use crate::starting::keep_port;
+use crate::starting::{fault_of, keep_port};
 use crate::stepping::ClockWatch;
 use crossbeam_channel::{Receiver, RecvTimeoutError, Sender};
+use gu_archive::Hours;
 use gu_batch::{Sink, write_totals};
 use gu_board::{Board, Log, Written, number, say_started, text};
 use gu_book::Book;
@@ -25,6 +27,7 @@ use gu_parties::House;
 use gu_recorder::{Journals, Shutter};
 use gu_status::Part;
 use std::alloc::Global;
+use std::fs::File;
 use std::io::Eprint;
 use std::net::{Net, TcpListener, TcpStream};
 use std::random::RandomSource;
@@ -45,8 +48,13 @@ type Tie = (Tied, Watching);
 /// and where it hands over what the watch can shut.
 type Tied = (Sender<u8>, Watched);
 
-/// What the watch has: the other ends, and what it can shut of connections.
-type Watching = (Receiver<u8>, Receiver<Shutter>, Arc<Shutters>);
+/// What the watch has: the other ends, what it can shut of connections, and the archive's hours.
+type Watching = (
+    Receiver<u8>,
+    Receiver<Shutter>,
+    Arc<Shutters>,
+    Option<Arc<Hours>>,
+);
 
 /// That a server of this house gives a book back that calls made of the opening one, or a fault of
 /// its own.
@@ -80,16 +88,21 @@ fn say_stuck<R: Wait + Clock>(rt: &R, alloc: Global, board: &Board, part: Part) 
     }
 }
 
-/// Waits until a server has ended, or a part of it stands still: which. Looks at the clock too.
-fn watch<R: Wait + Clock>(
+/// Waits until a server has ended, or a part of it stands still: which. Looks at the clock too, and
+/// opens the archive's next hour.
+fn watch<R: Wait + Clock + Files<File = File>>(
     rt: &R,
     alloc: Global,
     ended: &Receiver<u8>,
     board: &Board,
+    hours: Option<&Hours>,
 ) -> Option<Part> {
     let mut clock = ClockWatch::new();
     for _ in rt.forever() {
         clock.look(rt, alloc, board);
+        if let Some(hours) = hours {
+            hours.look(rt, alloc);
+        }
         match ended.recv_timeout(rt, Duration::from_secs(1)) {
             Err(RecvTimeoutError::Timeout) => {}
             _ => return None,
@@ -111,6 +124,7 @@ fn keep_beside<
         + Clock
         + Net<Stream = TcpStream, Listener = TcpListener>
         + RandomSource
+        + Files<File = File>
         + Copy
         + Send
         + Sync
@@ -130,7 +144,7 @@ fn keep_beside<
     ensures served { IfOk result (λ b. IsServed house (stored b)) }
     ensures fault { IfErr result (λ e. IsTrue (is_keep_fault e)) }
 {
-    let ((running, watched), (ended, shutters, connections)) = tie;
+    let ((running, watched), (ended, shutters, connections, hours)) = tie;
     let promise = OfHouse(Snapshot::of(&house));
     let there = *rt;
     let server = move ||
@@ -145,7 +159,7 @@ fn keep_beside<
     let Ok(child) = thread::spawn_with(rt, promise, server) else {
         return Err(Fault::Keep(KeepError::NoThread));
     };
-    match watch(rt, alloc, &ended, board) {
+    match watch(rt, alloc, &ended, board, hours.as_deref()) {
         None => child.join(rt),
         Some(part) => {
             say_stuck(rt, alloc, board, part);
@@ -165,7 +179,7 @@ fn open_window<
         + Clock
         + Net<Stream = TcpStream, Listener = TcpListener>
         + RandomSource
-        + Files
+        + Files<File = File>
         + Copy
         + Send
         + Sync
@@ -191,7 +205,7 @@ fn open_pages<
         + Clock
         + Net<Stream = TcpStream, Listener = TcpListener>
         + RandomSource
-        + Files
+        + Files<File = File>
         + Copy
         + Send
         + Sync
@@ -206,20 +220,41 @@ fn open_pages<
     Ok(())
 }
 
-/// Opens the pages that an order asks for, and makes what ties the server's thread to the watch.
+/// Opens this hour's files of the archive, where an order asks for one: before anybody can come in.
+fn open_hours<R: Clock + Files<File = File>>(
+    rt: &R,
+    alloc: Global,
+    order: &Order,
+) -> Result<Option<Arc<Hours>>, KeepError> {
+    let Some(folder) = &order.options.archive else {
+        return Ok(None);
+    };
+    match Hours::open(rt, alloc, folder.as_str(), order.workers) {
+        Ok(hours) => match Arc::new(alloc, hours) {
+            Ok(hours) => Ok(Some(hours)),
+            Err(_) => Err(KeepError::Memory),
+        },
+        Err(error) => Err(archive_fault(error)),
+    }
+}
+
+/// Opens the pages that an order asks for, and the archive, and makes what ties the server's thread
+/// to the watch.
 fn open_told<
     R: Threads
         + Wait
         + Clock
         + Net<Stream = TcpStream, Listener = TcpListener>
         + RandomSource
-        + Files
+        + Files<File = File>
         + Copy
         + Send
         + Sync
         + 'static,
 >(rt: &R, alloc: Global, order: &Order, board: &Arc<Board>) -> Result<Tie, KeepError> {
     open_pages(rt, alloc, order, board)?;
+    let hours = open_hours(rt, alloc, order)?;
+    let more = share_hours(&hours)?;
     let Ok(connections) = Arc::new(alloc, Shutters::new(alloc)) else {
         return Err(KeepError::Memory);
     };
@@ -234,8 +269,9 @@ fn open_told<
                 board,
                 to,
                 shutters,
+                hours,
             };
-            Ok(((running, watched), (ended, listeners, connections)))
+            Ok(((running, watched), (ended, listeners, connections, more)))
         }
         _ => Err(KeepError::Memory),
     }
@@ -277,7 +313,7 @@ fn open_board<R: Threads + Wait + Eprint + Copy + Send + Sync + 'static>(
         order.options.log_calls,
         house,
         order.workers,
-        order.options.limits.most_entries,
+        order.options.limits,
     );
     let Ok(board) = board else {
         return Err(KeepError::Memory);
@@ -295,7 +331,7 @@ fn keep_told<
         + Clock
         + Net<Stream = TcpStream, Listener = TcpListener>
         + RandomSource
-        + Files
+        + Files<File = File>
         + Copy
         + Send
         + Sync
@@ -319,7 +355,7 @@ fn keep_told<
         Err(error) => {
             drop(journals);
             drop(house);
-            Err(Fault::Keep(error))
+            Err(fault_of(alloc, &order, error))
         }
     }
 }
@@ -331,7 +367,7 @@ fn keep_and_tell<
         + Clock
         + Net<Stream = TcpStream, Listener = TcpListener>
         + RandomSource
-        + Files
+        + Files<File = File>
         + Copy
         + Send
         + Sync
@@ -368,7 +404,7 @@ fn keep_said<
         + Clock
         + Net<Stream = TcpStream, Listener = TcpListener>
         + RandomSource
-        + Files
+        + Files<File = File>
         + Copy
         + Send
         + Sync
@@ -412,7 +448,7 @@ pub fn keep_watched<
         + Clock
         + Net<Stream = TcpStream, Listener = TcpListener>
         + RandomSource
-        + Files
+        + Files<File = File>
         + Eprint
         + Copy
         + Send

@@ -3,8 +3,8 @@
 //! - A `Recorder` records what the desk has answered, in an `OpenJournal`: a journal over a disk
 //!   (`DiskJournal`), whose entries other machines may have to have too.
 //! - A desk of a kept book begins and ends with its recorder.
-//! - An `Outbox` sends nothing before the history that it rests on is kept, and nothing else goes
-//!   out through a `Wire`.
+//! - An `Outbox` sends nothing before the history that it rests on is kept, and before a `Witness`
+//!   has seen it. Nothing else goes out through a `Wire`.
 //! - `SystemJournals` opens the journal of a path.
 #![tactic(auto)]
 
@@ -32,4 +32,4 @@ pub use recorder::Recorder;
 pub use room::make_room;
 pub use shutter::Shutter;
 pub use system::SystemJournals;
-pub use wire::Wire;
+pub use wire::{Wire, Witness};

@@ -8,7 +8,7 @@ ghost use Rattle.gu_recorder.specs.Waiting.{made_of, Holds, Sends};
 ghost use Rattle.gu_recorder.specs.declared.outbox.Rest.TheVariants.{Nothing};
 
 use crate::made::{Made, made_after, made_behind, nothing_made};
-use crate::wire::{Wire, write};
+use crate::wire::{Wire, Witness, write};
 use gu_connection::{Closed, Connection};
 use gu_desk::{Desk, Job, Seat, Ticket};
 use std::alloc::Global;
@@ -177,9 +177,16 @@ impl<J: Job> Batch<J> {
         }
     }
 
-    /// Writes what the peer takes now of the bytes, if what they rest on is kept.
+    /// Writes what the peer takes now of the bytes, if what they rest on is kept, once a witness
+    /// has seen them.
     #[tactic(auto, using(crate::proofs::Waiting::left_bytes, crate::proofs::Waiting::left_rests))]
-    fn send(&mut self, sent: &mut Made, desk: &Desk<J>, wire: &Wire) -> Result<Rest, Closed>
+    fn send<W: Witness>(
+        &mut self,
+        sent: &mut Made,
+        desk: &Desk<J>,
+        wire: &Wire,
+        witness: &mut W,
+    ) -> Result<Rest, Closed>
         ensures sends { Sends
             (record { sent = sent.old.bytes; waits = self.old.made; rests = self.old.seen })
             (record { sent = sent.new.bytes; waits = self.new.made; rests = self.new.seen }) }
@@ -191,7 +198,7 @@ impl<J: Job> Batch<J> {
         if !self.ticket.settle(desk) {
             return Ok(Rest::Unkept);
         }
-        match write(&self.ticket, &self.made, sent, wire, &self.bytes) {
+        match write(&self.ticket, &self.made, sent, wire, witness, &self.bytes) {
             Ok(count) => {
                 pass(&mut self.bytes, count);
                 self.made = made_after(&self.made, count);
@@ -277,16 +284,22 @@ impl<J: Job> Outbox<J> {
         }
     }
 
-    /// Sends what may go out, as far as the peer takes it: a front of what waits.
+    /// Sends what may go out, as far as the peer takes it: a front of what waits. A witness sees
+    /// it before.
     #[tactic(auto, using(crate::proofs::Waiting::sends_front, crate::proofs::Waiting::sends_on))]
-    pub fn send(&mut self, desk: &Desk<J>, wire: &Wire) -> Result<Rest, Closed>
+    pub fn send<W: Witness>(
+        &mut self,
+        desk: &Desk<J>,
+        wire: &Wire,
+        witness: &mut W,
+    ) -> Result<Rest, Closed>
         ensures { Sends self.old self.new }
     {
-        match self.front.send(&mut self.sent, desk, wire) {
+        match self.front.send(&mut self.sent, desk, wire, witness) {
             Ok(Rest::Nothing) => {
                 swap(&mut self.front, &mut self.back);
                 self.into_back = !self.into_back;
-                self.front.send(&mut self.sent, desk, wire)
+                self.front.send(&mut self.sent, desk, wire, witness)
             }
             other => other,
         }

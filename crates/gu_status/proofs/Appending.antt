@@ -12,3 +12,8 @@ two old a b first new one last = last ∙ ap (λ t. t ++ b) one ∙ append_assoc
 pub three : (old a b c first second new : List ℕ) → first ≡ old ++ a → second ≡ first ++ b → new ≡ second ++ c
     → new ≡ old ++ (a ++ b ++ c)
 three old a b c first second new one next last = two old (a ++ b) c second new (two old a b first second one next) last
+
+pub four : (old a b c d first second third new : List ℕ) → first ≡ old ++ a → second ≡ first ++ b
+    → third ≡ second ++ c → new ≡ third ++ d → new ≡ old ++ (a ++ b ++ c ++ d)
+four old a b c d first second third new one next then last =
+    two old (a ++ b ++ c) d third new (three old a b c first second third one next then) last

@@ -43,6 +43,8 @@ book_text s =
     (codes "Entries of the book, all on the disk.") s.entries
     ++ single (codes "allocd_entries_limit") (codes "gauge")
     (codes "The most entries that the book takes.") s.most_entries
+    ++ single (codes "allocd_entries_reserved") (codes "gauge")
+    (codes "How many of them are the house's alone.") s.reserved
     ++ fullness_text s
 
 -- how much room it takes in memory, and its journal
@@ -50,6 +52,8 @@ unfoldable pub room_text : Snapshot → Text
 room_text s =
     single (codes "allocd_book_bytes") (codes "gauge")
     (codes "About how many bytes of memory the book takes.") s.book_bytes
+    ++ single (codes "allocd_book_bytes_limit") (codes "gauge")
+    (codes "How many bytes of memory the book may take; 0 where there is no limit.") s.most_bytes
     ++ single (codes "allocd_journal_bytes") (codes "gauge")
     (codes "Bytes of the journal.") s.journal_bytes
     ++ single (codes "allocd_lacks_memory") (codes "gauge")
@@ -70,6 +74,21 @@ firm_entries_text s =
     family (codes "allocd_firm_entries") (codes "gauge")
     (codes "Entries of the book that a firm has made.")
     ++ firms_text s.firms.items
+
+-- whether a firm is refused
+unfoldable pub refused_firm_text : FirmEntries → Text
+refused_firm_text f = labelled (codes "allocd_firm_refused{firm=\"") f.firm (one_if f.is_refused)
+
+-- of all firms
+abbrev pub refused_firms_text : List FirmEntries → Text
+refused_firms_text fs = flat_map refused_firm_text fs
+
+-- which firms are refused
+unfoldable pub firms_refused_text : Snapshot → Text
+firms_refused_text s =
+    family (codes "allocd_firm_refused") (codes "gauge")
+    (codes "1 where an operator has the firm refused, else 0.")
+    ++ refused_firms_text s.firms.items
 
 -- how many calls were refused by a refusal
 unfoldable pub refusal_text : ℕ → ℕ → Text
@@ -210,6 +229,7 @@ server_text s = build_text ++ start_text s.began ++ delays_text s
 
 -- all figures
 unfoldable pub metrics_text : Snapshot → Text
-metrics_text s = state_text s ++ book_text s ++ room_text s ++ firm_entries_text s ++ calls_text s
+metrics_text s = state_text s ++ book_text s ++ room_text s ++ firm_entries_text s
+    ++ firms_refused_text s ++ calls_text s
     ++ faults_text s.faults ++ times_text s.syncs.disk ++ answers_text s.syncs.machines
     ++ rest_text s ++ server_text s

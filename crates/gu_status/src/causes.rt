@@ -28,12 +28,14 @@ pub enum Cause {
     Version,
     /// Something else is wrong with the Logon.
     Logon,
+    /// LastReportNumber (5005) or BookName (5006) isn't one of this book.
+    Book,
     /// A Logout has said why.
     LoggedOut,
 }
 
 /// How many causes there are.
-pub const CAUSES: usize = 12;
+pub const CAUSES: usize = 13;
 
 impl Cause {
     /// All of them.
@@ -49,6 +51,7 @@ impl Cause {
         Cause::Encryption,
         Cause::Version,
         Cause::Logon,
+        Cause::Book,
         Cause::LoggedOut,
     ];
 
@@ -68,6 +71,7 @@ impl Cause {
             Cause::Encryption => "encryption",
             Cause::Version => "version",
             Cause::Logon => "logon",
+            Cause::Book => "book",
             Cause::LoggedOut => "logged_out",
         }
     }

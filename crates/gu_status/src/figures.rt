@@ -6,6 +6,8 @@ ghost use Rattle.gu_status.specs.Metrics.{answers_text, book_text, build_text, c
 ghost use Rattle.gu_status.specs.Metrics.{causes_text, cause_text, faults_text, firm_text};
 ghost use Rattle.gu_status.specs.Metrics.{logons_text, losses_text, rejects_text};
 ghost use Rattle.gu_status.specs.Metrics.{delays_text, firms_text, server_text, start_text};
+ghost use Rattle.gu_status.specs.Metrics.{firms_refused_text, refused_firm_text};
+ghost use Rattle.gu_status.specs.Metrics.{refused_firms_text};
 ghost use Rattle.gu_status.specs.Metrics.{fullness, fullness_text, long_buckets};
 ghost use Rattle.gu_status.specs.Metrics.{metrics_text, one_if, refusal_text, refusals_text};
 ghost use Rattle.gu_status.specs.Metrics.{rest_text, firm_entries_text, room_text};
@@ -239,6 +241,12 @@ fn push_book(text: &mut Vec<u8>, snapshot: &Snapshot) -> Result<(), Memory>
         "The most entries that the book takes.",
         snapshot.most_entries,
     )?;
+    push_count(
+        text,
+        "allocd_entries_reserved",
+        "How many of them are the house's alone.",
+        snapshot.reserved,
+    )?;
     push_fullness(text, snapshot)
 }
 
@@ -253,6 +261,13 @@ fn push_room(text: &mut Vec<u8>, snapshot: &Snapshot) -> Result<(), Memory>
         "gauge",
         "About how many bytes of memory the book takes.",
         snapshot.book_bytes,
+    )?;
+    push_single(
+        text,
+        "allocd_book_bytes_limit",
+        "gauge",
+        "How many bytes of memory the book may take; 0 where there is no limit.",
+        snapshot.most_bytes,
     )?;
     push_single(
         text,
@@ -281,6 +296,43 @@ fn push_firm_entries(text: &mut Vec<u8>, snapshot: &Snapshot) -> Result<(), Memo
         "Entries of the book that a firm has made.",
     )?;
     push_firms(text, &snapshot.firms)
+}
+
+/// Appends whether a firm is refused.
+#[tactic(auto, unfolding(crate::specs::Metrics::refused_firm_text))]
+fn push_refused_firm(text: &mut Vec<u8>, it: &FirmEntries) -> Result<(), Memory>
+    ensures { OnOk result (text.new.items ≡ text.old.items ++ refused_firm_text it.now) }
+{
+    push_labelled(
+        text,
+        "allocd_firm_refused{firm=\"",
+        it.firm.as_bytes(),
+        one_if(it.is_refused),
+    )
+}
+
+/// Appends whether each firm is refused.
+fn push_refused_firms(text: &mut Vec<u8>, firms: &[FirmEntries]) -> Result<(), Memory>
+    ensures { OnOk result (text.new.items ≡ text.old.items ++ refused_firms_text firms.now) }
+{
+    for it in firms {
+        push_refused_firm(text, it)?;
+    }
+    Ok(())
+}
+
+/// Appends which firms are refused.
+#[tactic(auto, unfolding(crate::specs::Metrics::firms_refused_text))]
+fn push_firms_refused(text: &mut Vec<u8>, snapshot: &Snapshot) -> Result<(), Memory>
+    ensures { OnOk result (text.new.items ≡ text.old.items ++ firms_refused_text snapshot.now) }
+{
+    push_family(
+        text,
+        "allocd_firm_refused",
+        "gauge",
+        "1 where an operator has the firm refused, else 0.",
+    )?;
+    push_refused_firms(text, &snapshot.firms)
 }
 
 /// Appends how many calls were refused for a reason.
@@ -522,6 +574,7 @@ pub fn metrics(alloc: Global, snapshot: &Snapshot) -> Result<Vec<u8>, Memory>
     push_book(&mut text, snapshot)?;
     push_room(&mut text, snapshot)?;
     push_firm_entries(&mut text, snapshot)?;
+    push_firms_refused(&mut text, snapshot)?;
     push_calls(&mut text, snapshot)?;
     push_faults(&mut text, &snapshot.faults)?;
     push_times(&mut text, &snapshot.syncs.disk)?;

@@ -21,11 +21,12 @@ pub const BOUNDS: [u64; BUCKETS] = [
     1_000, 2_000, 5_000, 10_000, 20_000, 50_000, 100_000, 200_000, 500_000, 1_000_000, 10_000_000,
 ];
 
-/// How many entries of the book are a firm's.
+/// How many entries of the book are a firm's, and whether an operator has it refused.
 #[derive(Clone, Copy, Debug)]
 pub struct FirmEntries {
     pub firm: FirmId,
     pub entries: u64,
+    pub is_refused: bool,
 }
 
 /// How many connections ended without an accepted Logon for a cause.
@@ -83,11 +84,15 @@ pub struct Snapshot {
     pub is_ready: bool,
     /// The part that hasn't moved for long, if there is one.
     pub stuck: Option<Part>,
-    /// The entries of the book, and the most that it may have.
+    /// The entries of the book, the most that it may have, and how many of these are the house's
+    /// alone.
     pub entries: u32,
     pub most_entries: u32,
-    /// About how many bytes of memory the book takes, and how many its journal's file has.
+    pub reserved: u32,
+    /// About how many bytes of memory the book takes, how many it may take (0 where there is no
+    /// limit), and how many its journal's file has.
     pub book_bytes: u64,
+    pub most_bytes: u64,
     pub journal_bytes: u64,
     /// Whether memory lacks, so that no calls of firms are made.
     pub lacks_memory: bool,

@@ -11,9 +11,10 @@ returns-clause-still g c = λ open_still untold.
           let kept : c.note_end.new.self.connection ≡ w.ends-self.new.self.connection =
           rw w.self-is at c.note_end.ensures.connection in
           let ended : w.ends-self.result ≡ false = rw w.self-is at stays in
-          turned_still g.J.Job.opening c.begin_turn.new.self.left _ _ w.in-Ok.left c.args.seat c.turn-seat.result.0
-          c.begin_turn.new.self.connection c.args.self.now.connection c.turn-seat.new.connection
-          c.note_end.new.self.connection c.begin_turn.ensures.connection
-          (kept ∙ w.ends-self.ensures.open ended) (rw w.in-Ok.is at c.turn-seat.ensures.turns) untold
+          turned_still g.J.Job.opening c.lend.new.self.left _ _ w.in-Ok.left c.args.seat c.turn-seat.result.0
+          c.lend.new.self.connection c.args.self.now.connection c.turn-seat.new.connection
+          c.note_end.new.self.connection (c.lend.ensures.connection ∙ c.begin_turn.ensures.connection)
+          ((kept ∙ w.ends-self.ensures.open ended) ∙ c.take_back.ensures.connection)
+          (rw w.in-Ok.is at c.turn-seat.ensures.turns) untold
       | in-Err w ↦ let e : true ≡ false = rw w.self-is at stays in absurd (cc e)
     ]
