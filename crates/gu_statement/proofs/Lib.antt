@@ -1,3 +1,9 @@
 pub mod Told
 pub mod Worked
 pub mod Together
+pub mod Going
+pub mod Coming
+pub mod Transfers
+pub mod Frames
+pub mod Live
+pub mod Counting

@@ -16,7 +16,8 @@ use Rattle.gu_base.specs.declared.state.State.TheVariants.{Held, Offered, Claime
 use Rattle.gu_trace.specs.Reports.{reports_for}
 use Rattle.gu_statement.specs.Sight.{Seen, seen}
 use Rattle.gu_base.specs.Positions.{position_of}
-use Rattle.gu_statement.specs.Lines.{statement_of, AgreementLine, agreement_lines, LookAlike}
+use Rattle.gu_statement.specs.declared.lines.AgreementLine.{AgreementLine}
+use Rattle.gu_statement.specs.Lines.{statement_of, agreement_lines, LookAlike}
 
 abbrev hse : List ℕ
 hse = codes "HSE"

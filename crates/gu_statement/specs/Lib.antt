@@ -1,2 +1,11 @@
 pub mod Sight
 pub mod Lines
+pub mod Words
+pub mod Asked
+pub mod Text
+pub mod LineTexts
+pub mod Going
+pub mod Writing
+pub mod Kinds
+pub mod Sheets
+pub mod Control

@@ -4,16 +4,16 @@ use Rattle.std.specs.Prelude.{◌≡◌, ℕ, zero, suc, ◌+◌, ◌*◌, ◌==
 use Rattle.std.specs.Prelude.{if◌then◌else◌, List, []}
 use Rattle.std.specs.Prelude.{◌∷◌, ◌++◌, map, filter, flat_map, length, Option, Some, None}
 use Rattle.std.specs.Prelude.{option_map}
-use Rattle.std.specs.Prelude.{unwrap_or, bytes_eq}
+use Rattle.std.specs.Prelude.{unwrap_or, bytes_eq, is_none, option_and_then}
 use Rattle.std.specs.List.{filter_map}
 use Rattle.gu_base.specs.Numbers.{EntryPart}
 use Rattle.gu_base.specs.House.{House}
 use Rattle.gu_base.specs.History.{records, live, is_change}
-use Rattle.gu_base.specs.Nodes.{nodes, nodes_of, split_of, is_offered}
+use Rattle.gu_base.specs.Nodes.{nodes, nodes_of, node_of, split_of, decision_of}
 use Rattle.gu_base.specs.Positions.{position_of}
-use Rattle.gu_base.specs.Fees.{charge_of_node, charges, paid_by, received_by}
+use Rattle.gu_base.specs.Fees.{charge_of, paid_by, received_by}
 use Rattle.gu_base.specs.Terms.{terms_of, limit_of, used_of}
-use Rattle.gu_base.specs.Refusals.{is_taker, limit_row, limit_by, used_by}
+use Rattle.gu_base.specs.Refusals.{is_taker, limit_row}
 use Rattle.gu_base.specs.Answers.{entry_of, reversal_of}
 use Rattle.gu_base.specs.Consents.{parties_of, consents_left, is_among}
 use Rattle.gu_base.specs.Standing.{standing_on}
@@ -22,16 +22,24 @@ use Rattle.gu_base.specs.declared.house.Account.{Account}
 use Rattle.gu_base.specs.declared.house.Agreement.{Agreement}
 use Rattle.gu_base.specs.declared.house.Pair.{Pair}
 use Rattle.gu_base.specs.declared.node.Charge.{Charge}
+use Rattle.gu_base.specs.declared.node.Kind.{Kind}
+use Rattle.gu_base.specs.declared.node.Kind.TheVariants.{Given}
 use Rattle.gu_base.specs.declared.node.Node.{Node}
 use Rattle.gu_base.specs.declared.node.Place.{Place}
 use Rattle.gu_base.specs.declared.command.Command.{Command}
-use Rattle.gu_base.specs.declared.command.Command.TheVariants.{Trade, Agree, Raise, Initiate}
-use Rattle.gu_base.specs.declared.command.Command.TheVariants.{Decline, Reverse}
+use Rattle.gu_base.specs.declared.command.Command.TheVariants.{Trade, Claim, Agree, Raise}
+use Rattle.gu_base.specs.declared.command.Command.TheVariants.{Initiate, Decline, Reverse}
+use Rattle.gu_base.specs.declared.command.Side.{Side}
 use Rattle.gu_base.specs.declared.command.Side.TheVariants.{Buy, Sell}
 use Rattle.gu_base.specs.declared.entry.Entry.{Entry}
 use Rattle.gu_base.specs.declared.entry.Record.{Record}
 use Rattle.gu_base.specs.declared.refusal.Refusal.{Refusal}
-use Rattle.gu_trace.specs.Concerns.{concerns, is_between}
+use Rattle.gu_trace.specs.Concerns.{concerns}
+use Rattle.gu_statement.specs.declared.lines.AgreementLine.{AgreementLine}
+use Rattle.gu_statement.specs.declared.lines.BalanceLine.{BalanceLine}
+use Rattle.gu_statement.specs.declared.lines.HopLine.{HopLine}
+use Rattle.gu_statement.specs.declared.lines.OfferLine.{OfferLine}
+use Rattle.gu_statement.specs.declared.lines.PositionLine.{PositionLine}
 use Rattle.gu_statement.specs.Sight.{Seen, cut}
 
 -- ---- whose a line is
@@ -46,12 +54,6 @@ is_of None firms = true
 is_of (Some f) firms = is_among f firms
 
 -- ---- positions, balances, hops, agreements
-
-pub record PositionLine : Type 0 where
-  pub at : Account
-  pub instrument : List ℕ
-  pub long : ℕ
-  pub short : ℕ
 
 -- lots that stand in an account
 abbrev pub position_line : List Record → Account → List ℕ → PositionLine
@@ -73,31 +75,26 @@ position_lines t l whose =
     (flat_map (λ (a : Account). map (position_line l a) t.instruments)
     (filter (λ (a : Account). is_of whose (a.firm ∷ [])) t.accounts))
 
-pub record BalanceLine : Type 0 where
-  pub firm : List ℕ
-  pub paid : ℕ
-  pub received : ℕ
+-- what a firm pays and receives
+abbrev pub balance_line : House → List Record → List ℕ → BalanceLine
+balance_line t l f = record { firm = f; paid = paid_by t l f; received = received_by t l f }
 
--- what each firm pays and receives, the house first
+-- the same of each firm, the house first
 abbrev pub balance_lines : House → List Record → Whose → List BalanceLine
 balance_lines t l whose =
-    map (λ f. record { firm = f; paid = paid_by t l f; received = received_by t l f })
-    (filter (λ f. is_of whose (f ∷ [])) (t.house ∷ t.firms))
+    map (balance_line t l) (filter (λ f. is_of whose (f ∷ [])) (t.house ∷ t.firms))
 
--- a hop is what a live Claim costs; its fee is its lots at its rate
-abbrev pub fee_of_hop : Charge → ℕ
-fee_of_hop c = c.lots * c.rate
+-- the hop of a Claim: its number, its node, and what it costs
+abbrev pub hop_of : House → List Record → ℕ → Command → Option HopLine
+hop_of t l k (Claim n account) =
+    option_map (λ c. record { entry = k; node = n; charge = c }) (charge_of t l (Claim n account))
+hop_of t l k _ = None
 
-abbrev pub hop_lines : House → List Record → Whose → List Charge
-hop_lines t l whose = filter (λ (c : Charge). is_of whose (c.giver ∷ c.taker ∷ [])) (charges t l)
-
-pub record AgreementLine : Type 0 where
-  pub giver : List ℕ
-  pub taker : List ℕ
-  pub rate : ℕ
-  pub limit : ℕ
-  pub used : ℕ
-  pub entry : ℕ
+-- the hop of each live Claim
+abbrev pub hop_lines : House → List Record → Whose → List HopLine
+hop_lines t l whose =
+    filter (λ (h : HopLine). is_of whose (h.charge.giver ∷ h.charge.taker ∷ []))
+    (filter_map (λ (r : Record). hop_of t l r.number r.command) l)
 
 -- the terms of two firms, with the entry that made them, or 0 where they are fixed
 abbrev pub agreement_line : House → List Record → ℕ → List ℕ → List ℕ → AgreementLine
@@ -167,27 +164,49 @@ node_lines l (Some f) =
 
 -- ---- what waits
 
-pub record OfferLine : Type 0 where
-  pub node : Node
-  pub costs : Option Charge
-  pub refusal : Option Refusal
+-- what the claim of so many lots costs under the terms of two firms
+abbrev pub cost_of : House → List Record → List ℕ → List ℕ → ℕ → Option Charge
+cost_of t l giver taker lots =
+    option_map
+    (λ (a : Agreement). record { giver = giver; taker = taker; lots = lots; rate = a.rate })
+    (terms_of t l giver taker)
 
 -- what the claim of an offer would cost, and why it would be refused, into an account of the taker
-abbrev pub offer_line : House → List Record → Node → OfferLine
-offer_line t l x = record {
+abbrev pub offer_line : House → List Record → Node → List ℕ → List ℕ → OfferLine
+offer_line t l x giver taker = record {
   node = x;
-  costs = charge_of_node t l x;
-  refusal = limit_row (used_by l x.kind + x.lots) (limit_by t l x.kind);
+  giver = giver;
+  taker = taker;
+  costs = cost_of t l giver taker x.lots;
+  refusal = limit_row (used_of l giver taker + x.lots) (limit_of t l giver taker);
 }
 
+-- the giver and the taker of a node, if it is given
+abbrev pub pair_of : Kind → Option (List ℕ × List ℕ)
+pair_of (Given parent giver taker) = Some (giver, taker)
+pair_of _ = None
+
+-- the taker of a node sees the account of its Claim
+abbrev pub takes : Whose → Option (List ℕ × List ℕ) → Bool
+takes whose None = is_none whose
+takes whose (Some pair) = is_of whose (pair.1 ∷ [])
+
+-- so of a command
+abbrev pub shows_account : Whose → List Entry → Command → Bool
+shows_account whose h (Claim n account) =
+    takes whose (option_and_then (λ (x : Node). pair_of x.kind) (node_of (records h) n))
+shows_account whose h _ = false
+
 -- its giver and its taker see an offer
-abbrev pub sees_node : Whose → Node → Bool
-sees_node None x = true
-sees_node (Some f) x = is_between f (Some x)
+abbrev pub offer_by : House → List Record → Whose → Node → Kind → Option OfferLine
+offer_by t l whose x (Given parent giver taker) =
+    if is_none (decision_of l x.name) && is_of whose (giver ∷ taker ∷ [])
+    then Some (offer_line t l x giver taker)
+    else None
+offer_by t l whose x _ = None
 
 abbrev pub offer_lines : House → List Record → Whose → List OfferLine
-offer_lines t l whose =
-    map (offer_line t l) (filter (λ (x : Node). is_offered l x && sees_node whose x) (nodes l))
+offer_lines t l whose = filter_map (λ (x : Node). offer_by t l whose x x.kind) (nodes l)
 
 pub record ReversalLine : Type 0 where
   pub entry : ℕ
@@ -277,7 +296,7 @@ pub record StatementOf : Type 0 where
   pub rows : List Row
   pub positions : List PositionLine
   pub balances : List BalanceLine
-  pub hops : List Charge
+  pub hops : List HopLine
   pub agreements : List AgreementLine
   pub offers : List OfferLine
   pub reversals : List ReversalLine

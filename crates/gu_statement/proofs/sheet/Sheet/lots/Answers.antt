@@ -1,0 +1,30 @@
+use Rattle.std.proofs.Common.{ap, length, arith}
+use Rattle.gu_base.specs.History.{live}
+use Rattle.gu_statement.specs.Control.{account_lots}
+use Rattle.gu_statement.proofs.Counting.{goes_on, all_of}
+use Rattle.gu_statement.proofs.sheet.Sheet.lots.Goals as goal
+
+pub loop-place-preserved : goal.loop-place-preserved
+loop-place-preserved c =
+    let book = c.args.self.now.book.now in
+    goes_on (account_lots book.house (live book.history) c.args.self.now.whose c.args.side)
+    book.house.accounts c.loop-place.place _ _ _
+    (omega (
+      arith,
+      c.loop-place-test.true,
+      rw c.house-house.ensures at
+          c.account_count-place-end.ensures,
+    )) c.loop-place.invariant
+    c.in_ok-more.ensures c.in_ok-total.ensures
+
+pub returns : goal.returns
+returns c =
+    let book = c.args.self.now.book.now in
+    all_of (account_lots book.house (live book.history) c.args.self.now.whose c.args.side)
+    book.house.accounts c.loop-place.place _
+    (omega (
+      arith,
+      c.loop-place-test.false,
+      rw c.house-house.ensures at
+          c.account_count-place-end.ensures,
+    )) c.loop-place.invariant

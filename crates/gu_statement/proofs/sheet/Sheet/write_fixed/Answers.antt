@@ -1,0 +1,25 @@
+use Rattle.std.proofs.Common.{sym, ◌∙◌, arith, ℕ, List}
+use Rattle.gu_base.specs.declared.house.Agreement.{Agreement}
+use Rattle.gu_base.specs.declared.house.Pair.{Pair}
+use Rattle.gu_statement.specs.Kinds.{agreement_text}
+use Rattle.gu_base.specs.History.{live}
+use Rattle.gu_statement.proofs.Coming.{then, same, taken, is_there}
+use Rattle.gu_statement.proofs.sheet.Sheet.write_fixed.Goals as goal
+use Rattle.gu_statement.proofs.sheet.Sheet.write_fixed.Goals.{in-Some+in_ok-write_agreement-in-Some, in-None}
+
+pub loop-place-preserved : goal.loop-place-preserved
+loop-place-preserved g c =
+    let book = c.args.self.now.book.now in
+    let f = λ (e : Pair × Agreement).
+    agreement_text book.house (live book.history) c.args.self.now.whose 0 e.0.giver e.0.taker in
+    let at = sym (rw c.house-house.ensures at c.agreement_at.ensures) in
+    elim c.match-agreement_at.branch [
+      | in-Some+in_ok-write_agreement-in-Some w ↦
+          rw (w.out-is, w.writer-is)
+          (same _ _ _ _ _ _ (taken f book.house.agreements c.loop-place.place _ (at ∙ w.in-Some.is))
+          (then _ _ _ _ _ _ _ _ c.loop-place.invariant w.in_ok-write_agreement-in-Some.ensures))
+      | in-None w ↦
+          let count = rw c.house-house.ensures at c.agreement_count-place-end.ensures in
+          absurd (is_there book.house.agreements c.loop-place.place (omega (arith, count, c.loop-place-test.true))
+          (at ∙ w.in-None.is))
+    ]

@@ -1,0 +1,15 @@
+use Rattle.gu_statement.proofs.Going.{on, on_ok, wrote, given, as_text}
+use Rattle.gu_statement.proofs.total_text.say_hop.Goals as goal
+
+pub returns : goal.returns
+returns c =
+    let begun = given c.in_ok-begin_object.was (wrote c.begin_object.result c.begin_object.ensures) in
+    let entry = on begun c.in_ok-count_entry.ensures in
+    let fee = on entry c.in_ok-count_fee.ensures in
+    let giver = on fee (as_text c.as_str.ensures.value c.in_ok-say.ensures) in
+    let kind = on giver c.in_ok-say-2.ensures in
+    let lots = on kind c.in_ok-count.ensures in
+    let node = on lots c.in_ok-name_node.ensures in
+    let rate = on node c.in_ok-count-2.ensures in
+    let last = on rate (as_text c.as_str-2.ensures.value c.in_ok-say-3.ensures) in
+    on_ok c.end_object.result (λ ends. on last ends) (wrote c.end_object.result c.end_object.ensures)
