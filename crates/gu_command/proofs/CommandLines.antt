@@ -20,7 +20,8 @@ use Rattle.gu_command.specs.Lines.{program, Makes, is_plain, command_in, word_fo
 use Rattle.gu_command.specs.Lines.{port_in, workers_in, connections_in, told_in, trade_meant, port_meant}
 use Rattle.gu_command.specs.Lines.{workers_meant}
 use Rattle.gu_command.specs.Lines.{connections_meant, IsLine, IsLineOf, AsksForBatch, AsksForTrace, AsksToServe}
-use Rattle.gu_command.specs.Lines.{AsksToKeep, AsksToVerify, AsksToBackUp, totals_in, copy_in}
+use Rattle.gu_command.specs.Lines.{AsksToKeep, AsksToVerify, AsksToBackUp, AsksToExtend, totals_in, copy_in}
+use Rattle.gu_command.specs.Lines.{larger_in, open_in, map_in, AsksToRoll}
 use Rattle.gu_command.specs.Options.{flag_meant, limit_meant, limit_or, usual_meant}
 use Rattle.gu_command.specs.Options.{AreLimitsOf, AreOptionsOf, AreMeant, no_options}
 use Rattle.gu_command.specs.Naming.{name_meant, asking_meant, no_book, IsBookOf}
@@ -33,6 +34,7 @@ use Rattle.gu_command.specs.declared.naming.NamedBook.{NamedBook}
 use Rattle.gu_command.specs.declared.options.KeepOptions.{KeepOptions}
 use Rattle.gu_command.specs.declared.line.Line.{Line}
 use Rattle.gu_command.specs.declared.line.Line.TheVariants.{Batch, Trace, Serve, Keep, Verify, Backup}
+use Rattle.gu_command.specs.declared.line.Line.TheVariants.{Extend, Roll}
 
 -- the program is simple, so its lines are computed
 pub program_simple : is_simple program ≡ true
@@ -68,6 +70,14 @@ verify_line path file = codes "verify" ∷ path ∷ file ∷ []
 -- the line `backup JOURNAL TO`
 abbrev pub backup_line : Text → Text → List Text
 backup_line file copy = codes "backup" ∷ file ∷ copy ∷ []
+
+-- the line `extend HOUSE JOURNAL NEWHOUSE TO`
+abbrev pub extend_line : Text → Text → Text → Text → List Text
+extend_line path file larger copy = codes "extend" ∷ path ∷ file ∷ larger ∷ copy ∷ []
+
+-- the line `roll HOUSE JOURNAL NEWHOUSE TO`
+abbrev pub roll_line : Text → Text → Text → Text → List Text
+roll_line path file larger copy = codes "roll" ∷ path ∷ file ∷ larger ∷ copy ∷ []
 
 -- ---- the commands
 
@@ -233,7 +243,7 @@ serve_taken path word h k =
 -- ---- keep
 
 abbrev naming_ids : List Text
-naming_ids = codes "NAME" ∷ codes "ASK_BOOK" ∷ []
+naming_ids = codes "NAME" ∷ codes "ASK_BOOK" ∷ codes "FOLDER" ∷ []
 
 abbrev telling_ids : List Text
 telling_ids = codes "LOG_CALLS" ∷ naming_ids
@@ -252,7 +262,7 @@ keep_ids = codes "HOUSE" ∷ codes "JOURNAL" ∷ codes "PORT" ∷ codes "WORKERS
 -- a flag that isn't given is `false`
 abbrev none_given : List (Option Text)
 none_given = None ∷ None ∷ None ∷ None ∷ None ∷ None ∷ None ∷ None ∷ Some (codes "false") ∷ None
-    ∷ Some (codes "false") ∷ []
+    ∷ Some (codes "false") ∷ None ∷ []
 
 keep_given : (path file word : Text) → is_plain path ≡ true → is_plain file ≡ true → is_plain word ≡ true
     → given_for keep_ids (subcommand_of program (keep_line path file word))
@@ -267,8 +277,9 @@ options_given : (given : Text → Option Text) → given (codes "PATH") ≡ None
     → given (codes "PARTS") ≡ None → given (codes "RESERVED") ≡ None → given (codes "MEMORY") ≡ None
     → given (codes "CALLS") ≡ None → given (codes "CONNECTIONS") ≡ None → given (codes "HELD") ≡ None
     → given (codes "LOG_CALLS") ≡ Some (codes "false") → given (codes "NAME") ≡ None
-    → given (codes "ASK_BOOK") ≡ Some (codes "false") → AreOptionsOf given [] no_options
-options_given given path entries parts reserved memory calls connections held log_calls name asking = (
+    → given (codes "ASK_BOOK") ≡ Some (codes "false") → given (codes "FOLDER") ≡ None
+    → AreOptionsOf given [] no_options
+options_given given path entries parts reserved memory calls connections held log_calls name asking folder = (
   path,
   (
     ap limit_meant entries,
@@ -282,6 +293,7 @@ options_given given path entries parts reserved memory calls connections held lo
   (refl, refl),
   ap flag_meant log_calls,
   (ap name_meant name, ap₂ asking_meant name asking),
+  folder,
 )
 
 -- nor behind `--status`
@@ -321,9 +333,11 @@ keep_met path file word h f k =
     let per_firm = rest_given (codes "CALLS") each _ _ _ _ rate in
     let held = rest_given (codes "CONNECTIONS") waiting _ _ _ _ per_firm in
     let log_calls = rest_given (codes "HELD") telling_ids _ _ _ _ held in
-    let asked = codes "ASK_BOOK" ∷ [] in
+    let folders = codes "FOLDER" ∷ [] in
+    let asked = codes "ASK_BOOK" ∷ folders in
     let name = rest_given (codes "LOG_CALLS") naming_ids _ _ _ _ log_calls in
-    let asking = rest_given (codes "NAME") asked _ _ _ _ name in (
+    let asking = rest_given (codes "NAME") asked _ _ _ _ name in
+    let folder = rest_given (codes "ASK_BOOK") folders _ _ _ _ asking in (
       command_given keep_ids _ _ _ e,
       first_given (codes "HOUSE") (codes "JOURNAL" ∷ ports) _ _ _ _ e,
       first_given (codes "JOURNAL") ports _ _ _ _ journal,
@@ -343,7 +357,8 @@ keep_met path file word h f k =
           (first_given (codes "HELD") telling_ids _ _ _ _ held)
           (first_given (codes "LOG_CALLS") naming_ids _ _ _ _ log_calls)
           (first_given (codes "NAME") asked _ _ _ _ name)
-          (first_given (codes "ASK_BOOK") [] _ _ _ _ asking)),
+          (first_given (codes "ASK_BOOK") folders _ _ _ _ asking)
+          (first_given (codes "FOLDER") [] _ _ _ _ folder)),
     )
 
 pub keep_taken : (path file word : Text) → is_plain path ≡ true → is_plain file ≡ true → is_plain word ≡ true
@@ -423,6 +438,155 @@ unfolding clap_on_literals
 backup_taken file copy f k =
     let file_is = read_plain file f in let copy_is = read_plain copy k in
     rw (file_is.0, file_is.1, file_is.0, copy_is.0, copy_is.1, copy_is.0) refl
+
+-- ---- extend
+
+abbrev extend_ids : List Text
+extend_ids = codes "HOUSE" ∷ codes "JOURNAL" ∷ codes "NEWHOUSE" ∷ codes "TO" ∷ []
+
+extend_given : (path file larger copy : Text) → is_plain path ≡ true → is_plain file ≡ true → is_plain larger ≡ true
+    → is_plain copy ≡ true → given_for extend_ids (subcommand_of program (extend_line path file larger copy))
+    ≡ Some (codes "extend", Some path ∷ Some file ∷ Some larger ∷ Some copy ∷ [])
+unfolding clap_on_literals
+extend_given path file larger copy h f l k =
+    let path_is = read_plain path h in let file_is = read_plain file f in
+    let larger_is = read_plain larger l in let copy_is = read_plain copy k in
+    rw (
+      path_is.0,
+      path_is.1,
+      path_is.0,
+      file_is.0,
+      file_is.1,
+      file_is.0,
+      larger_is.0,
+      larger_is.1,
+      larger_is.0,
+      copy_is.0,
+      copy_is.1,
+      copy_is.0,
+    ) refl
+
+pub extend_met : (path file larger copy : Text) → is_plain path ≡ true → is_plain file ≡ true
+    → is_plain larger ≡ true → is_plain copy ≡ true
+    → (command_in (extend_line path file larger copy) ≡ Some (codes "extend"))
+    × (house_in (extend_line path file larger copy) ≡ Some path)
+    × (journal_in (extend_line path file larger copy) ≡ Some file)
+    × (larger_in (extend_line path file larger copy) ≡ Some larger)
+    × (copy_in (extend_line path file larger copy) ≡ Some copy)
+extend_met path file larger copy h f l k =
+    let e = extend_given path file larger copy h f l k in
+    let copies = codes "TO" ∷ [] in
+    let wider = codes "NEWHOUSE" ∷ copies in
+    let journals = codes "JOURNAL" ∷ wider in
+    let journal = rest_given (codes "HOUSE") journals _ _ _ _ e in
+    let house = rest_given (codes "JOURNAL") wider _ _ _ _ journal in
+    let to = rest_given (codes "NEWHOUSE") copies _ _ _ _ house in (
+      command_given extend_ids _ _ _ e,
+      first_given (codes "HOUSE") journals _ _ _ _ e,
+      first_given (codes "JOURNAL") wider _ _ _ _ journal,
+      first_given (codes "NEWHOUSE") copies _ _ _ _ house,
+      first_given (codes "TO") [] _ _ _ _ to,
+    )
+
+pub extend_taken : (path file larger copy : Text) → is_plain path ≡ true → is_plain file ≡ true
+    → is_plain larger ≡ true → is_plain copy ≡ true → takes program (extend_line path file larger copy) ≡ true
+unfolding clap_on_literals
+extend_taken path file larger copy h f l k =
+    let path_is = read_plain path h in let file_is = read_plain file f in
+    let larger_is = read_plain larger l in let copy_is = read_plain copy k in
+    rw (
+      path_is.0,
+      path_is.1,
+      path_is.0,
+      file_is.0,
+      file_is.1,
+      file_is.0,
+      larger_is.0,
+      larger_is.1,
+      larger_is.0,
+      copy_is.0,
+      copy_is.1,
+      copy_is.0,
+    ) refl
+
+-- ---- roll
+
+abbrev roll_ids : List Text
+roll_ids =
+    codes "HOUSE" ∷ codes "JOURNAL" ∷ codes "NEWHOUSE" ∷ codes "TO" ∷ codes "OPEN" ∷ codes "FILE" ∷ []
+
+roll_given : (path file larger copy : Text) → is_plain path ≡ true → is_plain file ≡ true → is_plain larger ≡ true
+    → is_plain copy ≡ true → given_for roll_ids (subcommand_of program (roll_line path file larger copy))
+    ≡ Some (codes "roll", Some path ∷ Some file ∷ Some larger ∷ Some copy ∷ Some (codes "false") ∷ None ∷ [])
+unfolding clap_on_literals
+roll_given path file larger copy h f l k =
+    let path_is = read_plain path h in let file_is = read_plain file f in
+    let larger_is = read_plain larger l in let copy_is = read_plain copy k in
+    rw (
+      path_is.0,
+      path_is.1,
+      path_is.0,
+      file_is.0,
+      file_is.1,
+      file_is.0,
+      larger_is.0,
+      larger_is.1,
+      larger_is.0,
+      copy_is.0,
+      copy_is.1,
+      copy_is.0,
+    ) refl
+
+pub roll_met : (path file larger copy : Text) → is_plain path ≡ true → is_plain file ≡ true
+    → is_plain larger ≡ true → is_plain copy ≡ true
+    → (command_in (roll_line path file larger copy) ≡ Some (codes "roll"))
+    × (house_in (roll_line path file larger copy) ≡ Some path)
+    × (journal_in (roll_line path file larger copy) ≡ Some file)
+    × (larger_in (roll_line path file larger copy) ≡ Some larger)
+    × (copy_in (roll_line path file larger copy) ≡ Some copy)
+    × (open_in (roll_line path file larger copy) ≡ Some (codes "false"))
+    × (map_in (roll_line path file larger copy) ≡ None)
+roll_met path file larger copy h f l k =
+    let e = roll_given path file larger copy h f l k in
+    let maps = codes "FILE" ∷ [] in
+    let opens = codes "OPEN" ∷ maps in
+    let copies = codes "TO" ∷ opens in
+    let wider = codes "NEWHOUSE" ∷ copies in
+    let journals = codes "JOURNAL" ∷ wider in
+    let journal = rest_given (codes "HOUSE") journals _ _ _ _ e in
+    let house = rest_given (codes "JOURNAL") wider _ _ _ _ journal in
+    let to = rest_given (codes "NEWHOUSE") copies _ _ _ _ house in
+    let flag = rest_given (codes "TO") opens _ _ _ _ to in
+    let map_at = rest_given (codes "OPEN") maps _ _ _ _ flag in (
+      command_given roll_ids _ _ _ e,
+      first_given (codes "HOUSE") journals _ _ _ _ e,
+      first_given (codes "JOURNAL") wider _ _ _ _ journal,
+      first_given (codes "NEWHOUSE") copies _ _ _ _ house,
+      first_given (codes "TO") opens _ _ _ _ to,
+      first_given (codes "OPEN") maps _ _ _ _ flag,
+      first_given (codes "FILE") [] _ _ _ _ map_at,
+    )
+
+pub roll_taken : (path file larger copy : Text) → is_plain path ≡ true → is_plain file ≡ true
+    → is_plain larger ≡ true → is_plain copy ≡ true → takes program (roll_line path file larger copy) ≡ true
+unfolding clap_on_literals
+roll_taken path file larger copy h f l k =
+    let path_is = read_plain path h in let file_is = read_plain file f in
+    let larger_is = read_plain larger l in let copy_is = read_plain copy k in
+    rw (
+      path_is.0,
+      path_is.1,
+      path_is.0,
+      file_is.0,
+      file_is.1,
+      file_is.0,
+      larger_is.0,
+      larger_is.1,
+      larger_is.0,
+      copy_is.0,
+      copy_is.1,
+      copy_is.0,
+    ) refl
 
 -- ---- what is found behind the command
 
@@ -507,6 +671,7 @@ same_meaning f g s t options same told k = (
     ap name_meant (same (codes "NAME")) ∙ k.4.0,
     ap₂ asking_meant (same (codes "NAME")) (same (codes "ASK_BOOK")) ∙ k.4.1,
   ),
+  same (codes "FOLDER") ∙ k.5,
 )
 
 -- a word that means a place is one
@@ -568,6 +733,22 @@ line_found words command given told (Verify path look) c g t k = (
 )
 line_found words command given told (Backup journal to) c g t k =
     (c ∙ ap Some k.0, sym (g (codes "JOURNAL")) ∙ k.1, sym (g (codes "TO")) ∙ k.2)
+line_found words command given told (Extend path paths) c g t k = (
+  c ∙ ap Some k.0,
+  sym (g (codes "HOUSE")) ∙ k.1,
+  sym (g (codes "JOURNAL")) ∙ k.2,
+  sym (g (codes "NEWHOUSE")) ∙ k.3,
+  sym (g (codes "TO")) ∙ k.4,
+)
+line_found words command given told (Roll path rolling) c g t k = (
+  c ∙ ap Some k.0,
+  sym (g (codes "HOUSE")) ∙ k.1,
+  sym (g (codes "JOURNAL")) ∙ k.2,
+  sym (g (codes "NEWHOUSE")) ∙ k.3,
+  sym (g (codes "TO")) ∙ k.4,
+  ap flag_meant (sym (g (codes "OPEN"))) ∙ k.5,
+  sym (g (codes "FILE")) ∙ k.6,
+)
 
 -- ---- what a line asks for
 
@@ -636,6 +817,45 @@ backup_no_serve e = firsts_apart _ _ (λ (bad : 98 ≡ 115). omega (arith, bad))
 backup_no_keep : codes "backup" ≡ codes "keep" → ⊥
 backup_no_keep e = firsts_apart _ _ (λ (bad : 98 ≡ 107). omega (arith, bad)) e
 
+extend_no_batch : codes "extend" ≡ codes "batch" → ⊥
+extend_no_batch e = firsts_apart _ _ (λ (bad : 101 ≡ 98). omega (arith, bad)) e
+
+extend_no_trace : codes "extend" ≡ codes "trace" → ⊥
+extend_no_trace e = firsts_apart _ _ (λ (bad : 101 ≡ 116). omega (arith, bad)) e
+
+extend_no_serve : codes "extend" ≡ codes "serve" → ⊥
+extend_no_serve e = firsts_apart _ _ (λ (bad : 101 ≡ 115). omega (arith, bad)) e
+
+extend_no_keep : codes "extend" ≡ codes "keep" → ⊥
+extend_no_keep e = firsts_apart _ _ (λ (bad : 101 ≡ 107). omega (arith, bad)) e
+
+extend_no_verify : codes "extend" ≡ codes "verify" → ⊥
+extend_no_verify e = firsts_apart _ _ (λ (bad : 101 ≡ 118). omega (arith, bad)) e
+
+extend_no_backup : codes "extend" ≡ codes "backup" → ⊥
+extend_no_backup e = firsts_apart _ _ (λ (bad : 101 ≡ 98). omega (arith, bad)) e
+
+roll_no_batch : codes "roll" ≡ codes "batch" → ⊥
+roll_no_batch e = firsts_apart _ _ (λ (bad : 114 ≡ 98). omega (arith, bad)) e
+
+roll_no_trace : codes "roll" ≡ codes "trace" → ⊥
+roll_no_trace e = firsts_apart _ _ (λ (bad : 114 ≡ 116). omega (arith, bad)) e
+
+roll_no_serve : codes "roll" ≡ codes "serve" → ⊥
+roll_no_serve e = firsts_apart _ _ (λ (bad : 114 ≡ 115). omega (arith, bad)) e
+
+roll_no_keep : codes "roll" ≡ codes "keep" → ⊥
+roll_no_keep e = firsts_apart _ _ (λ (bad : 114 ≡ 107). omega (arith, bad)) e
+
+roll_no_verify : codes "roll" ≡ codes "verify" → ⊥
+roll_no_verify e = firsts_apart _ _ (λ (bad : 114 ≡ 118). omega (arith, bad)) e
+
+roll_no_backup : codes "roll" ≡ codes "backup" → ⊥
+roll_no_backup e = firsts_apart _ _ (λ (bad : 114 ≡ 98). omega (arith, bad)) e
+
+roll_no_extend : codes "roll" ≡ codes "extend" → ⊥
+roll_no_extend e = firsts_apart _ _ (λ (bad : 114 ≡ 101). omega (arith, bad)) e
+
 serve_no_trace : codes "serve" ≡ codes "trace" → ⊥
 serve_no_trace e = let bad : 115 ≡ 116 = ap (λ (t : Text). slice_index t 0) e in omega (arith, bad)
 
@@ -649,6 +869,8 @@ asks_batch command path given told (Keep file journal port workers connections o
     absurd (keep_no_batch (sym k.0 ∙ c))
 asks_batch command path given told (Verify file look) c h k = absurd (verify_no_batch (sym k.0 ∙ c))
 asks_batch command path given told (Backup journal to) c h k = absurd (backup_no_batch (sym k.0 ∙ c))
+asks_batch command path given told (Extend file paths) c h k = absurd (extend_no_batch (sym k.0 ∙ c))
+asks_batch command path given told (Roll file rolling) c h k = absurd (roll_no_batch (sym k.0 ∙ c))
 
 pub asks_trace : (command path : Text) (given : Text → Option Text) (told : List Text) (trade : Option ℕ) (l : Line)
     → command ≡ codes "trace" → given (codes "HOUSE") ≡ Some path → trade_meant (given (codes "N")) ≡ Some trade
@@ -663,6 +885,8 @@ asks_trace command path given told trade (Keep file journal port workers connect
 asks_trace command path given told trade (Verify file look) c h t k =
     absurd (verify_no_trace (sym k.0 ∙ c))
 asks_trace command path given told trade (Backup journal to) c h t k = absurd (backup_no_trace (sym k.0 ∙ c))
+asks_trace command path given told trade (Extend file paths) c h t k = absurd (extend_no_trace (sym k.0 ∙ c))
+asks_trace command path given told trade (Roll file rolling) c h t k = absurd (roll_no_trace (sym k.0 ∙ c))
 
 pub asks_serve : (command path : Text) (given : Text → Option Text) (told : List Text) (port : ℕ) (l : Line)
     → command ≡ codes "serve"
@@ -681,6 +905,8 @@ asks_serve command path given told port (Keep file journal at workers connection
 asks_serve command path given told port (Verify file look) c h p w n k =
     absurd (verify_no_serve (sym k.0 ∙ c))
 asks_serve command path given told port (Backup journal to) c h p w n k = absurd (backup_no_serve (sym k.0 ∙ c))
+asks_serve command path given told port (Extend file paths) c h p w n k = absurd (extend_no_serve (sym k.0 ∙ c))
+asks_serve command path given told port (Roll file rolling) c h p w n k = absurd (roll_no_serve (sym k.0 ∙ c))
 
 -- no word was given where none is found
 none_found : {A : Type 0} (f : A → Text) (r : Option A) → option_map f r ≡ None → r ≡ None
@@ -722,6 +948,7 @@ no_options_given options given told t k n =
     subst (λ (x : List Text). ArePlaces x options.status options.more_status) t k.2 in
     let log_calls = sym k.3 ∙ n.3 in
     let book = no_book_given options.book given k.4 n.4 in
+    let archive = none_found _ options.archive (sym k.5 ∙ n.5) in
     ap (λ x. record options { replica = x }) replica
     ∙ ap (λ x. record options { replica = None; limits = x }) limits
     ∙ ap (λ x. record no_options {
@@ -729,10 +956,17 @@ no_options_given options given told t k n =
       more_status = options.more_status;
       log_calls = options.log_calls;
       book = options.book;
+      archive = options.archive;
     }) places.0
-    ∙ ap (λ x. record no_options { more_status = x; log_calls = options.log_calls; book = options.book }) places.1
-    ∙ ap (λ x. record no_options { log_calls = x; book = options.book }) log_calls
-    ∙ ap (λ x. record no_options { book = x }) book
+    ∙ ap (λ x. record no_options {
+      more_status = x;
+      log_calls = options.log_calls;
+      book = options.book;
+      archive = options.archive;
+    }) places.1
+    ∙ ap (λ x. record no_options { log_calls = x; book = options.book; archive = options.archive }) log_calls
+    ∙ ap (λ x. record no_options { book = x; archive = options.archive }) book
+    ∙ ap (λ x. record no_options { archive = x }) archive
 
 pub asks_keep : (command path file : Text) (given : Text → Option Text) (told : List Text) (port : ℕ) (l : Line)
     → command ≡ codes "keep"
@@ -757,6 +991,10 @@ asks_keep command path file given told port (Verify house look) c h j p w n t r 
     absurd (verify_no_keep (sym k.0 ∙ c))
 asks_keep command path file given told port (Backup journal to) c h j p w n t r k =
     absurd (backup_no_keep (sym k.0 ∙ c))
+asks_keep command path file given told port (Extend house paths) c h j p w n t r k =
+    absurd (extend_no_keep (sym k.0 ∙ c))
+asks_keep command path file given told port (Roll house rolling) c h j p w n t r k =
+    absurd (roll_no_keep (sym k.0 ∙ c))
 
 pub asks_verify : (command path file : Text) (given : Text → Option Text) (told : List Text) (l : Line)
     → command ≡ codes "verify" → given (codes "HOUSE") ≡ Some path → given (codes "JOURNAL") ≡ Some file
@@ -775,6 +1013,8 @@ asks_verify command path file given told (Serve house at workers connections) c 
 asks_verify command path file given told (Keep house journal at workers connections options) c h j t n k =
     absurd (verify_no_keep (sym c ∙ k.0))
 asks_verify command path file given told (Backup journal to) c h j t n k = absurd (verify_no_backup (sym c ∙ k.0))
+asks_verify command path file given told (Extend house paths) c h j t n k = absurd (extend_no_verify (sym k.0 ∙ c))
+asks_verify command path file given told (Roll house rolling) c h j t n k = absurd (roll_no_verify (sym k.0 ∙ c))
 
 pub asks_backup : (command file copy : Text) (given : Text → Option Text) (told : List Text) (l : Line)
     → command ≡ codes "backup" → given (codes "JOURNAL") ≡ Some file → given (codes "TO") ≡ Some copy
@@ -789,6 +1029,62 @@ asks_backup command file copy given told (Keep house journal at workers connecti
     absurd (backup_no_keep (sym c ∙ k.0))
 asks_backup command file copy given told (Verify house look) c j t k =
     absurd (verify_no_backup (sym k.0 ∙ c))
+asks_backup command file copy given told (Extend house paths) c j t k =
+    absurd (extend_no_backup (sym k.0 ∙ c))
+asks_backup command file copy given told (Roll house rolling) c j t k = absurd (roll_no_backup (sym k.0 ∙ c))
+
+pub asks_extend : (command path file larger copy : Text) (given : Text → Option Text) (told : List Text) (l : Line)
+    → command ≡ codes "extend" → given (codes "HOUSE") ≡ Some path → given (codes "JOURNAL") ≡ Some file
+    → given (codes "NEWHOUSE") ≡ Some larger → given (codes "TO") ≡ Some copy → IsLineOf command given told l
+    → AsksToExtend path file larger copy l
+asks_extend command path file larger copy given told (Extend house paths) c h j n t k = (
+  same_in_some _ _ (sym k.1 ∙ h),
+  same_in_some _ _ (sym k.2 ∙ j),
+  same_in_some _ _ (sym k.3 ∙ n),
+  same_in_some _ _ (sym k.4 ∙ t),
+)
+asks_extend command path file larger copy given told (Batch house) c h j n t k =
+    absurd (extend_no_batch (sym c ∙ k.0))
+asks_extend command path file larger copy given told (Trace house number) c h j n t k =
+    absurd (extend_no_trace (sym c ∙ k.0))
+asks_extend command path file larger copy given told (Serve house at workers connections) c h j n t k =
+    absurd (extend_no_serve (sym c ∙ k.0))
+asks_extend command path file larger copy given told (Keep house journal at workers connections options) c h j n t k =
+    absurd (extend_no_keep (sym c ∙ k.0))
+asks_extend command path file larger copy given told (Verify house look) c h j n t k =
+    absurd (extend_no_verify (sym c ∙ k.0))
+asks_extend command path file larger copy given told (Backup journal to) c h j n t k =
+    absurd (extend_no_backup (sym c ∙ k.0))
+asks_extend command path file larger copy given told (Roll house rolling) c h j n t k =
+    absurd (roll_no_extend (sym k.0 ∙ c))
+
+pub asks_roll : (command path file larger copy : Text) (given : Text → Option Text) (told : List Text) (l : Line)
+    → command ≡ codes "roll" → given (codes "HOUSE") ≡ Some path → given (codes "JOURNAL") ≡ Some file
+    → given (codes "NEWHOUSE") ≡ Some larger → given (codes "TO") ≡ Some copy
+    → given (codes "OPEN") ≡ Some (codes "false") → given (codes "FILE") ≡ None → IsLineOf command given told l
+    → AsksToRoll path file larger copy l
+asks_roll command path file larger copy given told (Roll house rolling) c h j n t o m k = (
+  same_in_some _ _ (sym k.1 ∙ h),
+  same_in_some _ _ (sym k.2 ∙ j),
+  same_in_some _ _ (sym k.3 ∙ n),
+  same_in_some _ _ (sym k.4 ∙ t),
+  sym k.5 ∙ ap flag_meant o,
+  none_found _ rolling.map (sym k.6 ∙ m),
+)
+asks_roll command path file larger copy given told (Batch house) c h j n t o m k =
+    absurd (roll_no_batch (sym c ∙ k.0))
+asks_roll command path file larger copy given told (Trace house number) c h j n t o m k =
+    absurd (roll_no_trace (sym c ∙ k.0))
+asks_roll command path file larger copy given told (Serve house at workers connections) c h j n t o m k =
+    absurd (roll_no_serve (sym c ∙ k.0))
+asks_roll command path file larger copy given told (Keep house journal at workers connections options) c h j n t o m k =
+    absurd (roll_no_keep (sym c ∙ k.0))
+asks_roll command path file larger copy given told (Verify house look) c h j n t o m k =
+    absurd (roll_no_verify (sym c ∙ k.0))
+asks_roll command path file larger copy given told (Backup journal to) c h j n t o m k =
+    absurd (roll_no_backup (sym c ∙ k.0))
+asks_roll command path file larger copy given told (Extend house paths) c h j n t o m k =
+    absurd (roll_no_extend (sym c ∙ k.0))
 
 -- ---- what comes of it
 
@@ -934,6 +1230,51 @@ backup_read r words name file copy given told e plain plain_copy named_so given_
     (IfOk-weaker r _ _ (λ l h. asks_backup name file copy given told l name_is journal_is copy_is h) read)
     (fails name_is (ap is_some journal_is) (ap is_some copy_is))
 
+pub extend_read : (r : Reading) (words : List Text) (name path file larger copy : Text) (given : Text → Option Text)
+    (told : List Text)
+    → words ≡ extend_line path file larger copy → is_plain path ≡ true → is_plain file ≡ true
+    → is_plain larger ≡ true → is_plain copy ≡ true → command_in words ≡ Some name
+    → ((id : Text) → given id ≡ word_for words id) → IfOk r (IsLineOf name given told)
+    → (name ≡ codes "extend" → is_some (given (codes "HOUSE")) ≡ true → is_some (given (codes "JOURNAL")) ≡ true
+    → is_some (given (codes "NEWHOUSE")) ≡ true → is_some (given (codes "TO")) ≡ true → IfErr r (λ e. e ≡ no_memory))
+    → MatchResult r (AsksToExtend path file larger copy) (λ e. e ≡ no_memory)
+extend_read r words name path file larger copy given told e plain plain_file plain_larger plain_copy named_so given_so
+    read fails =
+    let met = extend_met path file larger copy plain plain_file plain_larger plain_copy in
+    let name_is : name ≡ codes "extend" = same_in_some _ _ (sym named_so ∙ ap command_in e ∙ met.0) in
+    let house_is : given (codes "HOUSE") ≡ Some path = given_so (codes "HOUSE") ∙ ap house_in e ∙ met.1 in
+    let journal_is : given (codes "JOURNAL") ≡ Some file = given_so (codes "JOURNAL") ∙ ap journal_in e ∙ met.2 in
+    let larger_is : given (codes "NEWHOUSE") ≡ Some larger = given_so (codes "NEWHOUSE") ∙ ap larger_in e ∙ met.3 in
+    let copy_is : given (codes "TO") ≡ Some copy = given_so (codes "TO") ∙ ap copy_in e ∙ met.4 in
+    by_both r _ _
+    (IfOk-weaker r _ _
+    (λ l h. asks_extend name path file larger copy given told l name_is house_is journal_is larger_is copy_is h) read)
+    (fails name_is (ap is_some house_is) (ap is_some journal_is) (ap is_some larger_is) (ap is_some copy_is))
+
+pub roll_read : (r : Reading) (words : List Text) (name path file larger copy : Text) (given : Text → Option Text)
+    (told : List Text)
+    → words ≡ roll_line path file larger copy → is_plain path ≡ true → is_plain file ≡ true
+    → is_plain larger ≡ true → is_plain copy ≡ true → command_in words ≡ Some name
+    → ((id : Text) → given id ≡ word_for words id) → IfOk r (IsLineOf name given told)
+    → (name ≡ codes "roll" → is_some (given (codes "HOUSE")) ≡ true → is_some (given (codes "JOURNAL")) ≡ true
+    → is_some (given (codes "NEWHOUSE")) ≡ true → is_some (given (codes "TO")) ≡ true → IfErr r (λ e. e ≡ no_memory))
+    → MatchResult r (AsksToRoll path file larger copy) (λ e. e ≡ no_memory)
+roll_read r words name path file larger copy given told e plain plain_file plain_larger plain_copy named_so given_so
+    read fails =
+    let met = roll_met path file larger copy plain plain_file plain_larger plain_copy in
+    let name_is : name ≡ codes "roll" = same_in_some _ _ (sym named_so ∙ ap command_in e ∙ met.0) in
+    let house_is : given (codes "HOUSE") ≡ Some path = given_so (codes "HOUSE") ∙ ap house_in e ∙ met.1 in
+    let journal_is : given (codes "JOURNAL") ≡ Some file = given_so (codes "JOURNAL") ∙ ap journal_in e ∙ met.2 in
+    let larger_is : given (codes "NEWHOUSE") ≡ Some larger = given_so (codes "NEWHOUSE") ∙ ap larger_in e ∙ met.3 in
+    let copy_is : given (codes "TO") ≡ Some copy = given_so (codes "TO") ∙ ap copy_in e ∙ met.4 in
+    let open_is : given (codes "OPEN") ≡ Some (codes "false") = given_so (codes "OPEN") ∙ ap open_in e ∙ met.5 in
+    let map_is : given (codes "FILE") ≡ None = given_so (codes "FILE") ∙ ap map_in e ∙ met.6 in
+    by_both r _ _
+    (IfOk-weaker r _ _
+    (λ l h. asks_roll name path file larger copy given told l name_is house_is journal_is larger_is copy_is open_is
+    map_is h) read)
+    (fails name_is (ap is_some house_is) (ap is_some journal_is) (ap is_some larger_is) (ap is_some copy_is))
+
 -- a line that the parser finds in the words is told, unless memory runs out
 pub line_read : (r : Reading) (words : List Text) (name : Text) (given : Text → Option Text) (told : List Text)
     (l : Line) → IsLine words l → command_in words ≡ Some name → ((id : Text) → given id ≡ word_for words id)
@@ -951,21 +1292,26 @@ pub line_read : (r : Reading) (words : List Text) (name : Text) (given : Text �
     → is_some (trade_meant (given (codes "N"))) ≡ true → IfErr r (λ e. e ≡ no_memory))
     → (name ≡ codes "backup" → is_some (given (codes "JOURNAL")) ≡ true → is_some (given (codes "TO")) ≡ true
     → IfErr r (λ e. e ≡ no_memory))
+    → (name ≡ codes "extend" → is_some (given (codes "HOUSE")) ≡ true → is_some (given (codes "JOURNAL")) ≡ true
+    → is_some (given (codes "NEWHOUSE")) ≡ true → is_some (given (codes "TO")) ≡ true → IfErr r (λ e. e ≡ no_memory))
+    → (name ≡ codes "roll" → is_some (given (codes "HOUSE")) ≡ true → is_some (given (codes "JOURNAL")) ≡ true
+    → is_some (given (codes "NEWHOUSE")) ≡ true → is_some (given (codes "TO")) ≡ true → IfErr r (λ e. e ≡ no_memory))
     → IfErr r (λ e. e ≡ no_memory)
-line_read r words name given told (Batch path) found named_so given_so told_so batch trace serve keep verify backup =
+line_read r words name given told (Batch path) found named_so given_so told_so
+    batch trace serve keep verify backup extend roll =
     batch (same_in_some _ _ (sym named_so ∙ found.0)) (ap is_some (given_so (codes "HOUSE") ∙ found.1))
 line_read r words name given told (Trace path number) found named_so given_so told_so
-    batch trace serve keep verify backup =
+    batch trace serve keep verify backup extend roll =
     trace (same_in_some _ _ (sym named_so ∙ found.0)) (ap is_some (given_so (codes "HOUSE") ∙ found.1))
     (ap is_some (ap trade_meant (given_so (codes "N")) ∙ found.2))
 line_read r words name given told (Serve path port workers connections) found named_so given_so told_so
-    batch trace serve keep verify backup =
+    batch trace serve keep verify backup extend roll =
     serve (same_in_some _ _ (sym named_so ∙ found.0)) (ap is_some (given_so (codes "HOUSE") ∙ found.1))
     (ap is_some (ap port_meant (given_so (codes "PORT")) ∙ found.2))
     (ap is_some (ap workers_meant (given_so (codes "WORKERS")) ∙ found.3))
     (ap is_some (ap connections_meant (given_so (codes "COUNT")) ∙ found.4))
 line_read r words name given told (Keep path journal port workers connections options) found named_so given_so told_so
-    batch trace serve keep verify backup =
+    batch trace serve keep verify backup extend roll =
     meant_so given told options _
     (same_meaning given (word_for words) told (told_in words) options given_so told_so found.6)
     (keep (same_in_some _ _ (sym named_so ∙ found.0)) (ap is_some (given_so (codes "HOUSE") ∙ found.1))
@@ -974,10 +1320,20 @@ line_read r words name given told (Keep path journal port workers connections op
     (ap is_some (ap workers_meant (given_so (codes "WORKERS")) ∙ found.4))
     (ap is_some (ap connections_meant (given_so (codes "COUNT")) ∙ found.5)))
 line_read r words name given told (Verify path look) found named_so given_so told_so
-    batch trace serve keep verify backup =
+    batch trace serve keep verify backup extend roll =
     verify (same_in_some _ _ (sym named_so ∙ found.0)) (ap is_some (given_so (codes "HOUSE") ∙ found.1))
     (ap is_some (given_so (codes "JOURNAL") ∙ found.2)) (ap is_some (ap trade_meant (given_so (codes "N")) ∙ found.4))
 line_read r words name given told (Backup journal to) found named_so given_so told_so
-    batch trace serve keep verify backup =
+    batch trace serve keep verify backup extend roll =
     backup (same_in_some _ _ (sym named_so ∙ found.0)) (ap is_some (given_so (codes "JOURNAL") ∙ found.1))
     (ap is_some (given_so (codes "TO") ∙ found.2))
+line_read r words name given told (Extend path paths) found named_so given_so told_so
+    batch trace serve keep verify backup extend roll =
+    extend (same_in_some _ _ (sym named_so ∙ found.0)) (ap is_some (given_so (codes "HOUSE") ∙ found.1))
+    (ap is_some (given_so (codes "JOURNAL") ∙ found.2)) (ap is_some (given_so (codes "NEWHOUSE") ∙ found.3))
+    (ap is_some (given_so (codes "TO") ∙ found.4))
+line_read r words name given told (Roll path rolling) found named_so given_so told_so
+    batch trace serve keep verify backup extend roll =
+    roll (same_in_some _ _ (sym named_so ∙ found.0)) (ap is_some (given_so (codes "HOUSE") ∙ found.1))
+    (ap is_some (given_so (codes "JOURNAL") ∙ found.2)) (ap is_some (given_so (codes "NEWHOUSE") ∙ found.3))
+    (ap is_some (given_so (codes "TO") ∙ found.4))

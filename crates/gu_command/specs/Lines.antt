@@ -20,7 +20,7 @@ use Rattle.gu_command.specs.declared.fault.Fault.TheVariants.{Usage, Run}
 use Rattle.gu_batch.specs.declared.batch.RunError.TheVariants.{Memory}
 use Rattle.gu_command.specs.declared.line.Line.{Line}
 use Rattle.gu_command.specs.declared.line.Line.TheVariants.{Batch, Trace, Serve, Keep}
-use Rattle.gu_command.specs.declared.line.Line.TheVariants.{Verify, Backup}
+use Rattle.gu_command.specs.declared.line.Line.TheVariants.{Verify, Backup, Extend, Roll}
 
 -- the argument HOUSE
 abbrev pub house_rule : Rule
@@ -93,6 +93,32 @@ copy_rule = record (new_rule (codes "TO")) { required = true; action = Some Set 
 abbrev pub backup : App
 backup = with_rule (with_rule (new_app (codes "backup")) journal_rule) copy_rule
 
+-- the argument NEWHOUSE
+abbrev pub larger_rule : Rule
+larger_rule = record (new_rule (codes "NEWHOUSE")) { required = true; action = Some Set }
+
+-- the command `extend HOUSE JOURNAL NEWHOUSE TO`
+abbrev pub extend : App
+extend =
+    with_rule
+    (with_rule (with_rule (with_rule (new_app (codes "extend")) house_rule) journal_rule)
+    larger_rule) copy_rule
+
+-- the argument `--open`
+abbrev pub open_rule : Rule
+open_rule = record (new_rule (codes "OPEN")) { long = Some (codes "open"); action = Some SetTrue }
+
+-- the argument `--map FILE`
+abbrev pub map_rule : Rule
+map_rule = record (new_rule (codes "FILE")) { long = Some (codes "map"); action = Some Set }
+
+-- the command `roll HOUSE JOURNAL NEWHOUSE TO [--open] [--map FILE]`
+abbrev pub roll : App
+roll =
+    with_rule
+    (with_rule (with_rule (with_rule (with_rule (with_rule (new_app (codes "roll")) house_rule)
+    journal_rule) larger_rule) copy_rule) open_rule) map_rule
+
 -- the program, as the parser sees it: its words begin with a command, and there is no command for
 -- help
 abbrev pub top : App
@@ -104,10 +130,11 @@ top = record (new_app (codes "allocd")) {
   };
 }
 
--- the program with its six commands
+-- the program with its eight commands
 abbrev pub program : App
 program = with_subcommand (with_subcommand (with_subcommand (with_subcommand (with_subcommand
-    (with_subcommand top batch.top) trace.top) serve.top) keep.top) verify.top) backup.top
+    (with_subcommand (with_subcommand (with_subcommand top batch.top) trace.top) serve.top)
+    keep.top) verify.top) backup.top) extend.top) roll.top
 
 -- the command was made, or there was no memory for it
 abbrev pub Makes : App → Result Command Fault → Type 0
@@ -142,6 +169,18 @@ totals_in words = word_for words (codes "TOTALS")
 -- the copy that it finds
 abbrev pub copy_in : List Text → Option Text
 copy_in words = word_for words (codes "TO")
+
+-- the house file that has more, which it finds
+abbrev pub larger_in : List Text → Option Text
+larger_in words = word_for words (codes "NEWHOUSE")
+
+-- whether it finds `--open`
+abbrev pub open_in : List Text → Option Text
+open_in words = word_for words (codes "OPEN")
+
+-- what it finds behind `--map`
+abbrev pub map_in : List Text → Option Text
+map_in words = word_for words (codes "FILE")
 
 -- what it finds behind `--trade`
 abbrev pub trade_in : List Text → Option Text
@@ -219,6 +258,18 @@ IsLineOf command given told (Verify path look) =
 IsLineOf command given told (Backup journal to) =
     (command ≡ codes "backup") × (given (codes "JOURNAL") ≡ Some journal.bytes.items)
     × (given (codes "TO") ≡ Some to.bytes.items)
+IsLineOf command given told (Extend path paths) =
+    (command ≡ codes "extend") × (given (codes "HOUSE") ≡ Some path.bytes.items)
+    × (given (codes "JOURNAL") ≡ Some paths.journal.bytes.items)
+    × (given (codes "NEWHOUSE") ≡ Some paths.larger.bytes.items)
+    × (given (codes "TO") ≡ Some paths.to.bytes.items)
+IsLineOf command given told (Roll path rolling) =
+    (command ≡ codes "roll") × (given (codes "HOUSE") ≡ Some path.bytes.items)
+    × (given (codes "JOURNAL") ≡ Some rolling.paths.journal.bytes.items)
+    × (given (codes "NEWHOUSE") ≡ Some rolling.paths.larger.bytes.items)
+    × (given (codes "TO") ≡ Some rolling.paths.to.bytes.items)
+    × (flag_meant (given (codes "OPEN")) ≡ rolling.is_open)
+    × (given (codes "FILE") ≡ option_map (λ m. m.bytes.items) rolling.map)
 
 -- it is what the parser finds in the words
 abbrev pub IsLine : List Text → Line → Type 0
@@ -245,6 +296,20 @@ IsLine words (Verify path look) =
 IsLine words (Backup journal to) =
     (command_in words ≡ Some (codes "backup"))
     × (journal_in words ≡ Some journal.bytes.items) × (copy_in words ≡ Some to.bytes.items)
+IsLine words (Extend path paths) =
+    (command_in words ≡ Some (codes "extend"))
+    × (house_in words ≡ Some path.bytes.items)
+    × (journal_in words ≡ Some paths.journal.bytes.items)
+    × (larger_in words ≡ Some paths.larger.bytes.items)
+    × (copy_in words ≡ Some paths.to.bytes.items)
+IsLine words (Roll path rolling) =
+    (command_in words ≡ Some (codes "roll"))
+    × (house_in words ≡ Some path.bytes.items)
+    × (journal_in words ≡ Some rolling.paths.journal.bytes.items)
+    × (larger_in words ≡ Some rolling.paths.larger.bytes.items)
+    × (copy_in words ≡ Some rolling.paths.to.bytes.items)
+    × (flag_meant (open_in words) ≡ rolling.is_open)
+    × (map_in words ≡ option_map (λ m. m.bytes.items) rolling.map)
 
 -- the words are one of the program's lines, with any of its options: the parser takes them, and
 -- this is the line that it finds
@@ -261,6 +326,8 @@ AsksForBatch path (Serve house port workers connections) = ⊥
 AsksForBatch path (Keep house journal port workers connections options) = ⊥
 AsksForBatch path (Verify house look) = ⊥
 AsksForBatch path (Backup journal to) = ⊥
+AsksForBatch path (Extend house paths) = ⊥
+AsksForBatch path (Roll house rolling) = ⊥
 
 -- the line asks for the totals by the house file at the path, and for the trace of this trade, if
 -- one is named
@@ -271,6 +338,8 @@ AsksForTrace path asked (Serve house port workers connections) = ⊥
 AsksForTrace path asked (Keep house journal port workers connections options) = ⊥
 AsksForTrace path asked (Verify house look) = ⊥
 AsksForTrace path asked (Backup journal to) = ⊥
+AsksForTrace path asked (Extend house paths) = ⊥
+AsksForTrace path asked (Roll house rolling) = ⊥
 
 -- the line asks to serve by the house file at the path: on this port, by so many workers, so many
 -- connections
@@ -282,6 +351,8 @@ AsksToServe path p w n (Trace house trade) = ⊥
 AsksToServe path p w n (Keep house journal port workers connections options) = ⊥
 AsksToServe path p w n (Verify house look) = ⊥
 AsksToServe path p w n (Backup journal to) = ⊥
+AsksToServe path p w n (Extend house paths) = ⊥
+AsksToServe path p w n (Roll house rolling) = ⊥
 
 -- the line asks to keep a book in the journal at a path, with no options, and to serve it
 abbrev pub AsksToKeep : Text → Text → ℕ → ℕ → ℕ → Line → Type 0
@@ -293,6 +364,8 @@ AsksToKeep path file p w n (Trace house trade) = ⊥
 AsksToKeep path file p w n (Serve house port workers connections) = ⊥
 AsksToKeep path file p w n (Verify house look) = ⊥
 AsksToKeep path file p w n (Backup journal to) = ⊥
+AsksToKeep path file p w n (Extend house paths) = ⊥
+AsksToKeep path file p w n (Roll house rolling) = ⊥
 
 -- the line asks what a start would say of the journal at a path, and for nothing beside that
 abbrev pub AsksToVerify : Text → Text → Line → Type 0
@@ -304,6 +377,8 @@ AsksToVerify path file (Trace house trade) = ⊥
 AsksToVerify path file (Serve house port workers connections) = ⊥
 AsksToVerify path file (Keep house journal port workers connections options) = ⊥
 AsksToVerify path file (Backup journal to) = ⊥
+AsksToVerify path file (Extend house paths) = ⊥
+AsksToVerify path file (Roll house rolling) = ⊥
 
 -- the line asks for a copy of the journal at a path, at another one
 abbrev pub AsksToBackUp : Text → Text → Line → Type 0
@@ -314,6 +389,35 @@ AsksToBackUp file copy (Trace house trade) = ⊥
 AsksToBackUp file copy (Serve house port workers connections) = ⊥
 AsksToBackUp file copy (Keep house journal port workers connections options) = ⊥
 AsksToBackUp file copy (Verify house look) = ⊥
+AsksToBackUp file copy (Extend house paths) = ⊥
+AsksToBackUp file copy (Roll house rolling) = ⊥
+
+-- the line asks to write the journal at a path anew, by a house file that has more, at another path
+abbrev pub AsksToExtend : Text → Text → Text → Text → Line → Type 0
+AsksToExtend path file larger copy (Extend house paths) =
+    (house.bytes.items ≡ path) × (paths.journal.bytes.items ≡ file)
+    × (paths.larger.bytes.items ≡ larger) × (paths.to.bytes.items ≡ copy)
+AsksToExtend path file larger copy (Batch house) = ⊥
+AsksToExtend path file larger copy (Trace house trade) = ⊥
+AsksToExtend path file larger copy (Serve house port workers connections) = ⊥
+AsksToExtend path file larger copy (Keep house journal port workers connections options) = ⊥
+AsksToExtend path file larger copy (Verify house look) = ⊥
+AsksToExtend path file larger copy (Backup journal to) = ⊥
+AsksToExtend path file larger copy (Roll house rolling) = ⊥
+
+-- the line asks for a new book of the live changes of the journal at a path, with no options
+abbrev pub AsksToRoll : Text → Text → Text → Text → Line → Type 0
+AsksToRoll path file larger copy (Roll house rolling) =
+    (house.bytes.items ≡ path) × (rolling.paths.journal.bytes.items ≡ file)
+    × (rolling.paths.larger.bytes.items ≡ larger) × (rolling.paths.to.bytes.items ≡ copy)
+    × (rolling.is_open ≡ false) × (rolling.map ≡ None)
+AsksToRoll path file larger copy (Batch house) = ⊥
+AsksToRoll path file larger copy (Trace house trade) = ⊥
+AsksToRoll path file larger copy (Serve house port workers connections) = ⊥
+AsksToRoll path file larger copy (Keep house journal port workers connections options) = ⊥
+AsksToRoll path file larger copy (Verify house look) = ⊥
+AsksToRoll path file larger copy (Backup journal to) = ⊥
+AsksToRoll path file larger copy (Extend house paths) = ⊥
 
 -- a line that asks to serve does so by as many workers as a desk may have
 abbrev pub HasWorkers : Line → Type 0

@@ -56,6 +56,10 @@ abbrev pub log_calls_rule : Rule
 log_calls_rule =
     record (new_rule (codes "LOG_CALLS")) { long = Some (codes "log-calls"); action = Some SetTrue }
 
+-- the argument `--archive FOLDER`
+abbrev pub archive_rule : Rule
+archive_rule = option_rule (codes "FOLDER") (codes "archive")
+
 -- a command with the options that say what firms may have
 abbrev pub limited : App → App
 limited app =
@@ -69,7 +73,7 @@ telling app = with_rule (with_rule app status_rule) log_calls_rule
 
 -- a command with all of these options
 abbrev pub optioned : App → App
-optioned app = naming (telling (limited (with_rule app replica_rule)))
+optioned app = with_rule (naming (telling (limited (with_rule app replica_rule)))) archive_rule
 
 -- which limit a word means: none where there is no word, and else 1 to 1,000,000
 abbrev pub limit_meant : Option Text → Option (Option ℕ)
@@ -111,6 +115,7 @@ AreOptionsOf given told options =
     × ArePlaces told options.status options.more_status
     × (flag_meant (given (codes "LOG_CALLS")) ≡ options.log_calls)
     × IsBookOf given options.book
+    × (given (codes "FOLDER") ≡ option_map (λ f. f.bytes.items) options.archive)
 
 -- this holds if what was given for the limits means some
 abbrev pub IfMeant : (Text → Option Text) → Type 0 → Type 0
@@ -143,4 +148,5 @@ no_options = record {
   more_status = None;
   log_calls = false;
   book = no_book;
+  archive = None;
 }

@@ -87,6 +87,9 @@ pub enum KeepError {
     /// A part of the server stood still.
     #[error("a part of the server stood still")]
     Stuck,
+    /// A frame couldn't be put into the archive.
+    #[error("cannot write the archive: {0}")]
+    Archive(io::Error),
     /// Another worker found the journal failed.
     #[error("the journal has failed")]
     Failed,

@@ -12,7 +12,7 @@ mod naming;
 mod options;
 mod order;
 
-pub use copies::Look;
+pub use copies::{Extension, Look, Rolling};
 pub use errors::{KeepError, RecordError, ServeError, ServiceError};
 pub use fault::{Fault, fault_at};
 pub use line::{Line, MOST_WORKERS, command_line, unread_words};

@@ -13,7 +13,7 @@ ghost use Rattle.gu_command.specs.Lines.{Makes, is_plain, trade_meant, up_to as 
 ghost use Rattle.gu_command.specs.Lines.{port_meant, workers_meant, connections_meant};
 ghost use Rattle.gu_command.specs.Lines.{is_line_fault, IsLine, IsOneOfItsLines, IsLineOf};
 ghost use Rattle.gu_command.specs.Lines.{AsksForBatch, AsksForTrace, AsksToServe, AsksToKeep};
-ghost use Rattle.gu_command.specs.Lines.{AsksToVerify, AsksToBackUp};
+ghost use Rattle.gu_command.specs.Lines.{AsksToVerify, AsksToBackUp, AsksToExtend, AsksToRoll};
 ghost use Rattle.gu_command.specs.Lines.{HasWorkers};
 ghost use Rattle.gu_command.specs.Options.{option_rule, AreMeant};
 ghost use Rattle.gu_command.specs.Places.{told_among};
@@ -22,7 +22,10 @@ ghost use Rattle.gu_command.specs.Faults.{no_memory};
 ghost use Rattle.std.specs.IoError.{error_kind};
 ghost use Rattle.std.specs.declared.io.ErrorKind.TheVariants as io_kind;
 
-use crate::copies::{Look, backup_command, backup_line, verify_command, verify_line};
+use crate::copies::{
+    Extension, Look, Rolling, backup_command, backup_line, extend_command, extend_line,
+    roll_command, roll_line, verify_command, verify_line,
+};
 use crate::fault::Fault;
 use crate::options::{KeepOptions, options_of, with_options};
 use clap::error::ErrorKind;
@@ -75,6 +78,17 @@ pub enum Line {
         journal: String,
         to: String,
     },
+    /// `extend HOUSE JOURNAL NEWHOUSE TO`: write the journal anew, by a house file that has more.
+    Extend {
+        house: String,
+        paths: Extension,
+    },
+    /// `roll HOUSE JOURNAL NEWHOUSE TO [--open] [--map FILE]`: begin a new book with the live
+    /// changes of the journal.
+    Roll {
+        house: String,
+        rolling: Rolling,
+    },
 }
 
 /// The program's commands, and the names by which `ArgMatches` gives their words.
@@ -89,6 +103,10 @@ const KEEP: &str = "keep";
 pub(crate) const VERIFY: &str = "verify";
 
 pub(crate) const BACKUP: &str = "backup";
+
+pub(crate) const EXTEND: &str = "extend";
+
+pub(crate) const ROLL: &str = "roll";
 
 const HOUSE: &str = "HOUSE";
 
@@ -377,7 +395,9 @@ fn program_command<'a>(alloc: Global) -> Result<Command<'a>, Fault>
     let command = with_command(command, serve_command(alloc));
     let command = with_command(command, keep_command(alloc));
     let command = with_command(command, verify_command(alloc));
-    with_command(command, backup_command(alloc))
+    let command = with_command(command, backup_command(alloc));
+    let command = with_command(command, extend_command(alloc));
+    with_command(command, roll_command(alloc))
 }
 
 /// What the parser says to a command line, without its last line end. Where it found no memory it
@@ -610,6 +630,18 @@ fn line_of(alloc: Global, name: &str, given: &ArgMatches<'_>) -> Result<Line, Fa
         → is_some (first_value (found_of given.now) (codes "JOURNAL")) ≡ true
         → is_some (first_value (found_of given.now) (codes "TO")) ≡ true
         → IfErr result (λ e. e ≡ no_memory) }
+    ensures extend { name.now ≡ codes "extend"
+        → is_some (first_value (found_of given.now) (codes "HOUSE")) ≡ true
+        → is_some (first_value (found_of given.now) (codes "JOURNAL")) ≡ true
+        → is_some (first_value (found_of given.now) (codes "NEWHOUSE")) ≡ true
+        → is_some (first_value (found_of given.now) (codes "TO")) ≡ true
+        → IfErr result (λ e. e ≡ no_memory) }
+    ensures roll { name.now ≡ codes "roll"
+        → is_some (first_value (found_of given.now) (codes "HOUSE")) ≡ true
+        → is_some (first_value (found_of given.now) (codes "JOURNAL")) ≡ true
+        → is_some (first_value (found_of given.now) (codes "NEWHOUSE")) ≡ true
+        → is_some (first_value (found_of given.now) (codes "TO")) ≡ true
+        → IfErr result (λ e. e ≡ no_memory) }
     ensures fault { IfErr result (λ e. IsTrue (is_line_fault e)) }
 {
     if name == BACKUP {
@@ -631,6 +663,12 @@ fn line_of(alloc: Global, name: &str, given: &ArgMatches<'_>) -> Result<Line, Fa
     }
     if name == VERIFY {
         return verify_line(alloc, house, given);
+    }
+    if name == EXTEND {
+        return extend_line(alloc, house, given);
+    }
+    if name == ROLL {
+        return roll_line(alloc, house, given);
     }
     Err(Fault::Usage(String::new(alloc)))
 }
@@ -671,6 +709,16 @@ pub fn command_line(alloc: Global, words: &[String]) -> Result<Line, Fault>
         → map (λ w. w.bytes.items) words.now ≡ codes "backup" ∷ file ∷ copy ∷ []
         → is_plain file ≡ true → is_plain copy ≡ true
         → MatchResult result (AsksToBackUp file copy) (λ e. e ≡ no_memory) }
+    ensures extend { (path file larger copy : List ℕ) → map (λ w. w.bytes.items) words.now
+        ≡ codes "extend" ∷ path ∷ file ∷ larger ∷ copy ∷ []
+        → is_plain path ≡ true → is_plain file ≡ true → is_plain larger ≡ true
+        → is_plain copy ≡ true
+        → MatchResult result (AsksToExtend path file larger copy) (λ e. e ≡ no_memory) }
+    ensures roll { (path file larger copy : List ℕ) → map (λ w. w.bytes.items) words.now
+        ≡ codes "roll" ∷ path ∷ file ∷ larger ∷ copy ∷ []
+        → is_plain path ≡ true → is_plain file ≡ true → is_plain larger ≡ true
+        → is_plain copy ≡ true
+        → MatchResult result (AsksToRoll path file larger copy) (λ e. e ≡ no_memory) }
     ensures taken { IsOneOfItsLines (map (λ w. w.bytes.items) words.now)
         → IfErr result (λ e. e ≡ no_memory) }
     ensures fault { IfErr result (λ e. IsTrue (is_line_fault e)) }

@@ -7,6 +7,7 @@ ghost use Rattle.gu_command.specs.Lines.{Makes, is_line_fault};
 ghost use Rattle.gu_command.specs.Options.{replica_rule, most_entries_rule, reserve_rule};
 ghost use Rattle.gu_command.specs.Options.{most_parts_rule, memory_rule, held_rule};
 ghost use Rattle.gu_command.specs.Options.{rate_rule, per_firm_rule, status_rule, log_calls_rule};
+ghost use Rattle.gu_command.specs.Options.{archive_rule};
 ghost use Rattle.gu_command.specs.Options.{limited, telling, optioned, flag_meant, limit_meant};
 ghost use Rattle.gu_command.specs.Options.{limit_or};
 ghost use Rattle.gu_command.specs.Options.{AreLimitsOf, AreOptionsOf, AreMeant, IfMeant};
@@ -47,6 +48,8 @@ pub struct KeepOptions {
     pub log_calls: bool,
     /// `--book NAME`, `--ask-book`: which book this is.
     pub book: NamedBook,
+    /// `--archive FOLDER`: where each frame goes that came or was sent.
+    pub archive: Option<String>,
 }
 
 /// The names by which `ArgMatches` gives the options.
@@ -75,6 +78,8 @@ const USUAL_HELD: u32 = 64;
 const STATUS: &str = "STATUS";
 
 const LOG_CALLS: &str = "LOG_CALLS";
+
+const ARCHIVE: &str = "FOLDER";
 
 /// The option `--replicate`.
 fn replica_option<'a>(alloc: Global) -> Arg<'a>
@@ -239,6 +244,20 @@ fn with_telling<'a>(
     with_option(command, log_calls_option(alloc))
 }
 
+/// The option `--archive`.
+fn archive_option<'a>(alloc: Global) -> Arg<'a>
+    ensures rule { rule_of result ≡ archive_rule }
+    ensures local { result.global ≡ false }
+{
+    option(
+        alloc,
+        ARCHIVE,
+        "archive",
+        "The folder where each frame goes that came or was sent, a file an hour",
+        false,
+    )
+}
+
 /// A command with all of these options.
 pub(crate) fn with_options<'a>(
     alloc: Global,
@@ -249,11 +268,12 @@ pub(crate) fn with_options<'a>(
     let command = with_option(command, replica_option(alloc));
     let command = with_limits(alloc, command);
     let command = with_telling(alloc, command);
-    with_naming(alloc, command)
+    let command = with_naming(alloc, command);
+    with_option(command, archive_option(alloc))
 }
 
-/// The word behind `--replicate`, in memory of its own, and none where there is no such word.
-fn word_of(alloc: Global, word: Option<&str>) -> Result<Option<String>, Fault>
+/// The word behind an option, in memory of its own, and none where there is no such word.
+pub(crate) fn word_of(alloc: Global, word: Option<&str>) -> Result<Option<String>, Fault>
     ensures ok { IfOk result (λ r.
         option_map (λ w. w.now) word.entry ≡ option_map (λ s. s.bytes.items) r) }
     ensures err { IfErr result (λ e. e ≡ no_memory) }
@@ -395,6 +415,7 @@ pub(crate) fn options_of(alloc: Global, given: &ArgMatches<'_>) -> Result<KeepOp
     let replica = word_of(alloc, given.get_str(REPLICA))?;
     let (status, more_status) = places_of(alloc, given.get_strs(STATUS).unwrap_or(&[]))?;
     let book = book_of(alloc, given)?;
+    let archive = word_of(alloc, given.get_str(ARCHIVE))?;
     Ok(KeepOptions {
         replica,
         limits,
@@ -402,5 +423,6 @@ pub(crate) fn options_of(alloc: Global, given: &ArgMatches<'_>) -> Result<KeepOp
         more_status,
         log_calls: is_set(given.get_str(LOG_CALLS)),
         book,
+        archive,
     })
 }

@@ -1,2 +1,3 @@
 mod Transfers
 mod Looking
+mod Anew

@@ -1,1 +1,3 @@
+pub mod Extended
+pub mod Rolled
 pub mod Verified

@@ -18,6 +18,31 @@ fn discarded<F: JournalFiles>(alloc: Global, files: &F, to: &str, error: io::Err
     fault_at(alloc, to, CopyError::Write(error))
 }
 
+/// Makes a file of these bytes at a path where nothing stands, which has its name once they are all
+/// on the disk.
+pub(crate) fn put<F: JournalFiles>(
+    alloc: Global,
+    files: &F,
+    to: &str,
+    text: &[u8],
+) -> Result<(), Fault>
+    ensures copied { OnOk result (F.is_copied files.now to.now text.now) }
+    ensures fault { IfErr result (λ e. IsTrue (is_keep_fault e)) }
+{
+    let mut draft = files.draft(alloc, to)?;
+    match draft.fill(text) {
+        Ok(()) => {}
+        Err(error) => {
+            drop(draft);
+            return Err(discarded(alloc, files, to, error));
+        }
+    }
+    match files.sync(draft, text) {
+        Ok(copy) => files.name(alloc, copy, to, text),
+        Err(error) => Err(discarded(alloc, files, to, error)),
+    }
+}
+
 /// Copies the journal at a path to another path, where nothing stands. The copy has the bytes that
 /// `verify` reads of the journal, and its name once they are all on the disk.
 ///
@@ -31,16 +56,5 @@ pub fn back_up<F: JournalFiles>(alloc: Global, files: &F, path: &str, to: &str) 
     ensures fault { IfErr result (λ e. IsTrue (is_keep_fault e)) }
 {
     let text = files.read_journal(alloc, path)?;
-    let mut draft = files.draft(alloc, to)?;
-    match draft.fill(&text) {
-        Ok(()) => {}
-        Err(error) => {
-            drop(draft);
-            return Err(discarded(alloc, files, to, error));
-        }
-    }
-    match files.sync(draft, &text) {
-        Ok(copy) => files.name(alloc, copy, to, &text),
-        Err(error) => Err(discarded(alloc, files, to, error)),
-    }
+    put(alloc, files, to, &text)
 }

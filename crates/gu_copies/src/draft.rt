@@ -9,19 +9,21 @@ use std::fs::OpenFile;
 use std::io;
 use std::io::Write;
 
-/// A file that is to be a copy, and has no name of its own yet. Of its bytes nothing is known but
-/// how many were written.
+/// A file that is to be a copy, and has no name of its own yet but the path at which it lies. Of
+/// its bytes nothing is known but how many were written.
 #[derive(Drop)]
 pub struct Draft<T> {
     file: Counted<T>,
+    part: String,
     written: usize,
 }
 
 impl<T: Write> Draft<T> {
-    /// A file that is empty.
-    pub(crate) fn new(file: T) -> Draft<T> {
+    /// A file that is empty, at this path.
+    pub(crate) fn new(file: T, part: String) -> Draft<T> {
         Draft {
             file: Counted::new(file),
+            part,
             written: 0,
         }
     }
@@ -36,19 +38,24 @@ impl<T: Write + OpenFile + Drop> Draft<T> {
     pub fn sync(self) -> io::Result<SyncedDraft>
         ensures { IfOk result (λ copy. copy.written ≡ self.written) }
     {
-        let Draft { file, written } = self;
+        let Draft {
+            file,
+            part,
+            written,
+        } = self;
         let file = file.into_inner();
         match file.sync_all() {
-            Ok(()) => Ok(SyncedDraft { written }),
+            Ok(()) => Ok(SyncedDraft { part, written }),
             Err(error) => Err(error),
         }
     }
 }
 
-/// A file that is synced, and has no name of its own yet. Of its bytes nothing is known but how
-/// many were written.
+/// A file that is synced, and has no name of its own yet but the path at which it lies. Of its
+/// bytes nothing is known but how many were written.
 #[derive(Drop)]
 pub struct SyncedDraft {
+    pub(crate) part: String,
     written: usize,
 }
 

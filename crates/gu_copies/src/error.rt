@@ -58,3 +58,17 @@ pub(crate) enum CopyError {
     #[error("its folder cannot be synced: {0}")]
     Folder(io::Error),
 }
+
+/// Why a journal in whose place another has come has its name still.
+#[derive(Clone, Copy, Debug, Error)]
+pub(crate) enum RetireError {
+    /// Something has the name that it was to get since it was locked.
+    #[error("the new journal is whole, but this one keeps its name: its .before stands there")]
+    Taken,
+    /// It can't be renamed.
+    #[error("the new journal is whole, but this one keeps its name: {0}")]
+    Name(io::Error),
+    /// It is renamed, but after a crash it may have its name again.
+    #[error("the new journal is whole, and this one renamed, but its folder cannot be synced: {0}")]
+    Folder(io::Error),
+}

@@ -43,6 +43,9 @@ pub trait JournalFiles {
     /// The same, once it is on the disk.
     type Synced: Synced + Drop;
 
+    /// A journal that no server has while this is there.
+    type Held: Drop;
+
     /// A copy with these bytes was made at a path, and is on the disk.
     ghost is_copied: { Self → List ℕ → List ℕ → Type 0 };
 
@@ -88,4 +91,23 @@ pub trait JournalFiles {
 
     /// Takes a copy away that isn't whole, or isn't on the disk.
     fn discard(&self, alloc: Global, to: &str);
+
+    /// Locks the journal at a path, until it is dropped. Nothing stands under its name and
+    /// `.before`.
+    ///
+    /// # Errors
+    ///
+    /// `Journal` where a server has it, where it isn't there or is no regular file, or where
+    /// something has that other name; or want of memory.
+    fn hold(&self, alloc: Global, path: &str) -> Result<Self::Held, Fault>
+        ensures fault { IfErr result (λ e. IsTrue (is_keep_fault e)) };
+
+    /// Puts `.before` behind the name of the journal at a path, which is locked.
+    ///
+    /// # Errors
+    ///
+    /// `Journal`, whose text says that it keeps its name, or after a crash may have it, while what
+    /// comes in its place is whole; or want of memory for that.
+    fn retire(&self, alloc: Global, held: Self::Held, path: &str) -> Result<(), Fault>
+        ensures fault { IfErr result (λ e. IsTrue (is_keep_fault e)) };
 }

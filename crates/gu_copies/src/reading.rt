@@ -2,6 +2,7 @@
 
 ghost use Rattle.std.specs.Prelude.{◌≤◌, length};
 
+use memchr::memchr;
 use std::alloc::Global;
 use std::io;
 use std::io::{ErrorKind, Read, Seek, SeekFrom};
@@ -36,9 +37,7 @@ fn read_whole<T: Read>(file: &mut T, text: &mut Vec<u8>) -> io::Result<()> {
 fn counted_len(text: &[u8]) -> usize
     ensures { result ≤ length text.now }
 {
-    text.iter()
-        .position(|byte| *byte == 0)
-        .unwrap_or(text.len())
+    memchr(0, text).unwrap_or(text.len())
 }
 
 /// Whether nothing but zeros stands from a place on.

@@ -3,11 +3,12 @@
 ghost use Rattle.std.specs.Prelude.{IsTrue, IfErr};
 ghost use Rattle.gu_command.specs.Faults.{is_keep_fault};
 
-use crate::draft::Draft;
-use crate::error::{CopyError, ReadError};
+use crate::draft::{Draft, SyncedDraft};
+use crate::error::{CopyError, ReadError, RetireError};
 use crate::reading::read_still;
 use gu_command::{Fault, KeepError, fault_at};
-use gu_journal::OpenError;
+use gu_journal::{OpenError, open_file};
+use sqlite_std_file::{FileFrom, Unknown};
 use std::alloc::{AllocError, Global};
 use std::fs::{File, OpenFile, OpenOptions};
 use std::io::ErrorKind;
@@ -90,7 +91,7 @@ pub fn draft_at<R: Files>(rt: &R, alloc: Global, to: &str) -> Result<Draft<R::Fi
         return Err(fault_at(alloc, to, CopyError::Taken));
     }
     match made(rt, part.as_str()) {
-        Ok(file) => Ok(Draft::new(file)),
+        Ok(file) => Ok(Draft::new(file, part)),
         Err(error) => Err(fault_at(alloc, part.as_str(), error)),
     }
 }
@@ -125,16 +126,13 @@ fn sync_folder<R: Files>(rt: &R, path: &str) -> io::Result<()> {
 /// # Errors
 ///
 /// Those of `JournalFiles::name`.
-pub fn name_draft<R: Files>(rt: &R, alloc: Global, to: &str) -> Result<(), Fault>
+pub fn name_draft<R: Files>(rt: &R, alloc: Global, copy: SyncedDraft, to: &str) -> Result<(), Fault>
     ensures { IfErr result (λ e. IsTrue (is_keep_fault e)) }
 {
-    let Ok(part) = beside(alloc, to) else {
-        return Err(Fault::Keep(KeepError::Memory));
-    };
-    match named(rt, part.as_str(), to) {
+    match named(rt, copy.part.as_str(), to) {
         Ok(()) => {}
         Err(error) => {
-            let _ = fs::remove_file(rt, part.as_str());
+            let _ = fs::remove_file(rt, copy.part.as_str());
             return Err(fault_at(alloc, to, error));
         }
     }
@@ -148,5 +146,85 @@ pub fn name_draft<R: Files>(rt: &R, alloc: Global, to: &str) -> Result<(), Fault
 pub fn discard_draft<R: Files>(rt: &R, alloc: Global, to: &str) {
     if let Ok(part) = beside(alloc, to) {
         let _ = fs::remove_file(rt, part.as_str());
+    }
+}
+
+/// A journal's file that is locked, its name without links, and the one that it is to get.
+#[derive(Drop)]
+pub struct HeldJournal {
+    file: FileFrom<Unknown>,
+    name: String,
+    before: String,
+}
+
+/// The name without links of a journal at a path, and the one that it is to get, which nothing has.
+fn names_of(rt: &HostRuntime, alloc: Global, path: &str) -> Result<(String, String), Fault>
+    ensures { IfErr result (λ e. IsTrue (is_keep_fault e)) }
+{
+    let real = match fs::canonicalize(rt, path) {
+        Ok(real) => real,
+        Err(error) => return Err(unread(alloc, path, error)),
+    };
+    let Ok(name) = String::from_str(alloc, real.as_str()) else {
+        return Err(Fault::Keep(KeepError::Memory));
+    };
+    let Ok(before) = format!(in alloc; "{}.before", real.as_str()) else {
+        return Err(Fault::Keep(KeepError::Memory));
+    };
+    if !is_free(rt, before.as_str()) {
+        return Err(fault_at(alloc, before.as_str(), CopyError::Taken));
+    }
+    Ok((name, before))
+}
+
+/// Locks the journal at a path, as `JournalFiles` says.
+///
+/// # Errors
+///
+/// Those of `JournalFiles::hold`.
+pub fn hold_file(rt: &HostRuntime, alloc: Global, path: &str) -> Result<HeldJournal, Fault>
+    ensures { IfErr result (λ e. IsTrue (is_keep_fault e)) }
+{
+    let (name, before) = names_of(rt, alloc, path)?;
+    match open_file(rt, name.as_str(), Unknown) {
+        Ok(file) => Ok(HeldJournal { file, name, before }),
+        Err(OpenError::Memory) => Err(Fault::Keep(KeepError::Memory)),
+        Err(error) => Err(fault_at(alloc, path, error)),
+    }
+}
+
+/// Gives a journal the name that it is to get.
+fn renamed<R: Files>(rt: &R, name: &str, before: &str) -> Result<(), RetireError> {
+    if !is_free(rt, before) {
+        return Err(RetireError::Taken);
+    }
+    match fs::rename(rt, name, before) {
+        Ok(()) => {}
+        Err(error) => return Err(RetireError::Name(error)),
+    }
+    match sync_folder(rt, name) {
+        Ok(()) => Ok(()),
+        Err(error) => Err(RetireError::Folder(error)),
+    }
+}
+
+/// Puts `.before` behind the name of a journal, as `JournalFiles` says.
+///
+/// # Errors
+///
+/// Those of `JournalFiles::retire`.
+pub fn retire_file(
+    rt: &HostRuntime,
+    alloc: Global,
+    held: HeldJournal,
+    path: &str,
+) -> Result<(), Fault>
+    ensures { IfErr result (λ e. IsTrue (is_keep_fault e)) }
+{
+    let done = renamed(rt, held.name.as_str(), held.before.as_str());
+    drop(held);
+    match done {
+        Ok(()) => Ok(()),
+        Err(error) => Err(fault_at(alloc, path, error)),
     }
 }

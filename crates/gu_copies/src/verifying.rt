@@ -12,12 +12,12 @@ ghost use Rattle.gu_copies.specs.Verified.{Looks};
 
 use crate::error::LookError;
 use crate::files::JournalFiles;
-use crate::image::Image;
 use crate::writing::write_whole;
 use gu_base::{Memory, Number};
 use gu_batch::{RunError, Sink};
 use gu_book::{Book, HashKey};
 use gu_command::Look;
+use gu_image::Image;
 use gu_journal::{HouseDigest, Journal, RecoverError, Recovered, Silent, Unrecovered, recover};
 use gu_parties::House;
 use gu_trace::{TraceError, totals, trace};

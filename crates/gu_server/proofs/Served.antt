@@ -12,12 +12,16 @@ use Rattle.std.specs.Prelude.{IfErr, OnOk, IsTrue}
 use Rattle.gu_command.specs.Faults.{is_keep_fault}
 use Rattle.gu_command.specs.Flags.{flag_meant}
 use Rattle.gu_command.specs.Lines.{command_in, house_in, journal_in, trade_in, trade_meant, totals_in, copy_in}
+use Rattle.gu_command.specs.Lines.{larger_in, open_in}
 use Rattle.gu_copies.specs.Verified.{Says, Looks, IsFaultOf, Copies}
+use Rattle.gu_copies.specs.Extended.{IsWrittenAnew}
+use Rattle.gu_copies.specs.Rolled.{HasRolled, keep_meant}
 use Rattle.gu_copies.specs.declared.error.LookError.{LookError}
 use Rattle.gu_copies.specs.declared.error.LookError.TheVariants as look
 use Rattle.gu_keep.specs.Keeping.{Keeps}
 use Rattle.sha2.specs.Sha256.{sha256}
 use Rattle.gu_server.specs.Program.{Names, Asks, AsksOfJournal, Serves, HasVerified, HasDone, Does, IsHouseFault}
+use Rattle.gu_server.specs.Program.{IsPinnedAt}
 use Rattle.gu_command.specs.declared.fault.Fault.{Fault}
 use Rattle.gu_command.specs.declared.fault.Fault.TheVariants as fault
 
@@ -169,7 +173,7 @@ pub copied_by : (words : List Text) (bytes_at journal_at : Text → Option (List
     → OnOk r (Copies (journal_at journal) (is_copied to)) → IfErr r (λ e. IsTrue (is_keep_fault e))
     → Does words bytes_at journal_at is_copied told told r
 copied_by words bytes_at journal_at is_copied journal to told (Ok done) is at asked copies fault =
-    inr (inr (inr (inr (inr (record {
+    inr (inr (inr (inr (inr (inl (record {
       is = is;
       journal = journal;
       named = at;
@@ -177,9 +181,80 @@ copied_by words bytes_at journal_at is_copied journal to told (Ok done) is at as
       asked = asked;
       copies = copies;
       same = refl;
-    })))))
+    }))))))
 copied_by words bytes_at journal_at is_copied journal to told (Err e) is at asked copies wrong =
-    refused_by words bytes_at journal_at is_copied told told e (inr (inr is)) wrong refl
+    refused_by words bytes_at journal_at is_copied told told e (inr (inr (inl is))) wrong refl
+
+-- the words' first house file has a house table
+abbrev asks_for : (command : Text) (words : List Text) (bytes_at : Text → Option (List ℕ)) (path : Text) (house : House)
+    → command_in words ≡ Some command → house_in words ≡ Some path → Names (bytes_at path) (Ok house)
+    → Asks command words bytes_at
+asks_for command words bytes_at path house is asked named =
+    record { path = path; is = is; asked = asked; house = house; named = named }
+
+-- the words ask for a journal to be written anew, which was done, or something was wrong
+pub extended_by : (words : List Text) (bytes_at journal_at : Text → Option (List ℕ))
+    (is_copied : Text → List ℕ → Type 0) (path larger journal to : Text) (t u : House) (pin new_pin : List ℕ)
+    (told : Told) (r : Result (Unit {0}) Fault) → command_in words ≡ Some (codes "extend")
+    → house_in words ≡ Some path → larger_in words ≡ Some larger → journal_in words ≡ Some journal
+    → copy_in words ≡ Some to → IsPinnedAt (bytes_at path) t pin → IsPinnedAt (bytes_at larger) u new_pin
+    → OnOk r (IsWrittenAnew t u pin new_pin (journal_at journal) (is_copied to))
+    → IfErr r (λ e. IsTrue (is_keep_fault e)) → Does words bytes_at journal_at is_copied told told r
+extended_by words bytes_at journal_at is_copied path larger journal to t u pin new_pin told (Ok done) is asked wider at
+    copy old new anew wrong =
+    inr (inr (inr (inr (inr (inr (inl (record {
+      asks = asks_for (codes "extend") words bytes_at path t is asked old.0;
+      larger = larger;
+      wider = wider;
+      house = u;
+      pin = new_pin;
+      pinned = new;
+      journal = journal;
+      named = at;
+      to = to;
+      asked = copy;
+      anew =
+          subst (λ (p : List ℕ). IsWrittenAnew t u p new_pin (journal_at journal) (is_copied to)) old.1 anew;
+      same = refl;
+    })))))))
+extended_by words bytes_at journal_at is_copied path larger journal to t u pin new_pin told (Err e) is asked wider at
+    copy old new anew wrong =
+    refused_by words bytes_at journal_at is_copied told told e
+    (inr (inr (inr (inl (asks_for (codes "extend") words bytes_at path t is asked old.0))))) wrong refl
+
+-- the words ask for a new book, which was begun, or something was wrong
+pub begun_by : (words : List Text) (bytes_at journal_at : Text → Option (List ℕ))
+    (is_copied : Text → List ℕ → Type 0) (path larger journal to : Text) (is_open : Bool) (t u : House)
+    (pin new_pin : List ℕ) (told : Told) (r : Result (Unit {0}) Fault) → command_in words ≡ Some (codes "roll")
+    → house_in words ≡ Some path → larger_in words ≡ Some larger → journal_in words ≡ Some journal
+    → copy_in words ≡ Some to → flag_meant (open_in words) ≡ is_open
+    → IsPinnedAt (bytes_at path) t pin → IsPinnedAt (bytes_at larger) u new_pin
+    → OnOk r (HasRolled t u pin new_pin (journal_at journal) (keep_meant is_open) (is_copied to))
+    → IfErr r (λ e. IsTrue (is_keep_fault e)) → Does words bytes_at journal_at is_copied told told r
+begun_by words bytes_at journal_at is_copied path larger journal to is_open t u pin new_pin told (Ok done) is asked
+    wider at copy flag old new begun wrong =
+    inr (inr (inr (inr (inr (inr (inr (record {
+      asks = asks_for (codes "roll") words bytes_at path t is asked old.0;
+      larger = larger;
+      wider = wider;
+      house = u;
+      pin = new_pin;
+      pinned = new;
+      journal = journal;
+      named = at;
+      to = to;
+      asked = copy;
+      begun =
+          subst (λ (b : Bool).
+          HasRolled t u (sha256 old.0.0) new_pin (journal_at journal) (keep_meant b) (is_copied to)) (sym flag)
+          (subst (λ (p : List ℕ). HasRolled t u p new_pin (journal_at journal) (keep_meant is_open) (is_copied to))
+          old.1 begun);
+      same = refl;
+    })))))))
+begun_by words bytes_at journal_at is_copied path larger journal to is_open t u pin new_pin told (Err e) is asked
+    wider at copy flag old new begun wrong =
+    refused_by words bytes_at journal_at is_copied told told e
+    (inr (inr (inr (inr (asks_for (codes "roll") words bytes_at path t is asked old.0))))) wrong refl
 
 -- the house file of the words is at fault, and nothing was read or written
 pub stopped : (words : List Text) (bytes_at journal_at : Text → Option (List ℕ))

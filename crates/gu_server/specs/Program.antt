@@ -13,9 +13,11 @@ use Rattle.gu_parties.specs.declared.fault.HouseError.{HouseError}
 use Rattle.gu_connection.specs.Serving.{IsServed}
 use Rattle.gu_server.specs.HouseText.{IsTextOf, IsTooLong}
 use Rattle.gu_command.specs.Lines.{command_in, house_in, journal_in, trade_in, trade_meant}
-use Rattle.gu_command.specs.Lines.{totals_in, copy_in}
+use Rattle.gu_command.specs.Lines.{totals_in, copy_in, larger_in, open_in}
 use Rattle.gu_command.specs.Flags.{flag_meant}
 use Rattle.gu_copies.specs.Verified.{Says, Copies}
+use Rattle.gu_copies.specs.Extended.{IsWrittenAnew}
+use Rattle.gu_copies.specs.Rolled.{HasRolled, keep_meant}
 use Rattle.sha2.specs.Sha256.{sha256}
 use Rattle.gu_command.specs.declared.fault.Fault.{Fault}
 use Rattle.gu_command.specs.declared.fault.Fault.TheVariants.{Usage, HouseFile, HouseLine, Service}
@@ -36,6 +38,10 @@ abbrev pub ReadsHouse : Option (List ℕ) → Result House Fault → Type 0
 ReadsHouse known (Ok house) = Names known (Ok house)
 ReadsHouse known (Err e) = IsHouseFault known e
 
+-- this is the house table of a file with these bytes, and the digest of its text
+abbrev pub IsPinnedAt : Option (List ℕ) → House → List ℕ → Type 0
+IsPinnedAt known house pin = (named : Names known (Ok house)) × (pin ≡ sha256 named.0)
+
 -- the words are those of this command, and the house file that they name has a house table
 pub record Asks (command : Text) (words : List Text) (bytes_at : Text → Option (List ℕ))
     : Type 0 where
@@ -49,7 +55,8 @@ pub record Asks (command : Text) (words : List Text) (bytes_at : Text → Option
 abbrev pub AsksOfJournal : List Text → (Text → Option (List ℕ)) → Type 0
 AsksOfJournal words bytes_at =
     Asks (codes "keep") words bytes_at ⊎ Asks (codes "verify") words bytes_at
-    ⊎ (command_in words ≡ Some (codes "backup"))
+    ⊎ (command_in words ≡ Some (codes "backup")) ⊎ Asks (codes "extend") words bytes_at
+    ⊎ Asks (codes "roll") words bytes_at
 
 -- why nothing was read and nothing written: the command line, the house file that it names, or the
 -- server
@@ -146,6 +153,56 @@ abbrev pub HasCopied : {A : Type 0} → List Text → (Text → Option (List ℕ
 HasCopied words journal_at is_copied old new (Ok x) = IsCopied words journal_at is_copied old new
 HasCopied words journal_at is_copied old new (Err e) = ⊥
 
+-- the journal of the words was written anew to where they say, under the house table that their
+-- second house file names; nothing was read or written beside that
+pub record IsAnew (words : List Text) (bytes_at journal_at : Text → Option (List ℕ))
+    (is_copied : Text → List ℕ → Type 0) (old new : Told) : Type 0 where
+  pub asks : Asks (codes "extend") words bytes_at
+  pub larger : Text
+  pub wider : larger_in words ≡ Some larger
+  pub house : House
+  pub pin : List ℕ
+  pub pinned : IsPinnedAt (bytes_at larger) house pin
+  pub journal : Text
+  pub named : journal_in words ≡ Some journal
+  pub to : Text
+  pub asked : copy_in words ≡ Some to
+  pub anew : IsWrittenAnew asks.house house (sha256 asks.named.0) pin (journal_at journal)
+      (is_copied to)
+  pub same : new ≡ old
+
+abbrev pub HasExtended : {A : Type 0} → List Text → (Text → Option (List ℕ))
+    → (Text → Option (List ℕ)) → (Text → List ℕ → Type 0) → Told → Told → Result A RunError
+    → Type 0
+HasExtended words bytes_at journal_at is_copied old new (Ok x) =
+    IsAnew words bytes_at journal_at is_copied old new
+HasExtended words bytes_at journal_at is_copied old new (Err e) = ⊥
+
+-- a new book was begun where the words say, with what is live in the journal that they name, under
+-- the house table that their second house file names; nothing was read or written beside that
+pub record IsBegun (words : List Text) (bytes_at journal_at : Text → Option (List ℕ))
+    (is_copied : Text → List ℕ → Type 0) (old new : Told) : Type 0 where
+  pub asks : Asks (codes "roll") words bytes_at
+  pub larger : Text
+  pub wider : larger_in words ≡ Some larger
+  pub house : House
+  pub pin : List ℕ
+  pub pinned : IsPinnedAt (bytes_at larger) house pin
+  pub journal : Text
+  pub named : journal_in words ≡ Some journal
+  pub to : Text
+  pub asked : copy_in words ≡ Some to
+  pub begun : HasRolled asks.house house (sha256 asks.named.0) pin (journal_at journal)
+      (keep_meant (flag_meant (open_in words))) (is_copied to)
+  pub same : new ≡ old
+
+abbrev pub HasBegun : {A : Type 0} → List Text → (Text → Option (List ℕ))
+    → (Text → Option (List ℕ)) → (Text → List ℕ → Type 0) → Told → Told → Result A RunError
+    → Type 0
+HasBegun words bytes_at journal_at is_copied old new (Ok x) =
+    IsBegun words bytes_at journal_at is_copied old new
+HasBegun words bytes_at journal_at is_copied old new (Err e) = ⊥
+
 -- ---- the program
 
 -- what the words ask for was done
@@ -157,10 +214,12 @@ HasDone words bytes_at journal_at is_copied old new result =
     ⊎ HasServed words bytes_at old new result ⊎ HasKept words bytes_at old new result
     ⊎ HasVerified words bytes_at journal_at old new result
     ⊎ HasCopied words journal_at is_copied old new result
+    ⊎ HasExtended words bytes_at journal_at is_copied old new result
+    ⊎ HasBegun words bytes_at journal_at is_copied old new result
 
--- a batch, a trace or a server was run to its end, a journal looked at or copied, or nothing was
--- touched, or the run ended with an error. House files have these bytes, journals those, and this
--- holds of copies.
+-- a batch, a trace or a server was run to its end, a journal looked at, copied, extended or rolled,
+-- or nothing was touched, or the run ended with an error. House files have these bytes, journals
+-- those, and this holds of copies, of what is extended and of new books.
 abbrev pub Does : {A : Type 0} → List Text → (Text → Option (List ℕ)) → (Text → Option (List ℕ))
     → (Text → List ℕ → Type 0) → Told → Told → Result A Fault → Type 0
 Does {A} words bytes_at journal_at is_copied old new (Ok x) =

@@ -5,7 +5,10 @@ ghost use Rattle.gu_server.specs.HouseText.{Reads, ReadsAll};
 
 use gu_batch::{Counted, RunError, Source};
 use gu_command::Fault;
-use gu_copies::{Draft, JournalFiles, SyncedDraft, discard_draft, draft_at, name_draft, read_file};
+use gu_copies::{
+    Draft, HeldJournal, JournalFiles, SyncedDraft, discard_draft, draft_at, hold_file, name_draft,
+    read_file, retire_file,
+};
 use std::alloc::Global;
 use std::fs::File;
 use std::io;
@@ -86,32 +89,42 @@ impl<R: Files> HouseFiles for SystemFiles<'_, R> {
     }
 }
 
-impl<R: Files> JournalFiles for SystemFiles<'_, R> {
+impl JournalFiles for SystemFiles<'_, HostRuntime> {
     ghost journal_at = { λ _ _. None };
 
     ghost is_copied = { λ _ _ _. Unit {0} };
 
-    type Draft = Draft<R::File>;
+    type Draft = Draft<File>;
 
     type Synced = SyncedDraft;
+
+    type Held = HeldJournal;
 
     fn read_journal(&self, alloc: Global, path: &str) -> Result<Vec<u8>, Fault> {
         read_file(self.rt, alloc, path)
     }
 
-    fn draft(&self, alloc: Global, to: &str) -> Result<Draft<R::File>, Fault> {
+    fn draft(&self, alloc: Global, to: &str) -> Result<Draft<File>, Fault> {
         draft_at(self.rt, alloc, to)
     }
 
-    fn sync(&self, draft: Draft<R::File>, _text: &[u8]) -> io::Result<SyncedDraft> {
+    fn sync(&self, draft: Draft<File>, _text: &[u8]) -> io::Result<SyncedDraft> {
         draft.sync()
     }
 
-    fn name(&self, alloc: Global, _copy: SyncedDraft, to: &str, _text: &[u8]) -> Result<(), Fault> {
-        name_draft(self.rt, alloc, to)
+    fn name(&self, alloc: Global, copy: SyncedDraft, to: &str, _text: &[u8]) -> Result<(), Fault> {
+        name_draft(self.rt, alloc, copy, to)
     }
 
     fn discard(&self, alloc: Global, to: &str) {
         discard_draft(self.rt, alloc, to);
+    }
+
+    fn hold(&self, alloc: Global, path: &str) -> Result<HeldJournal, Fault> {
+        hold_file(self.rt, alloc, path)
+    }
+
+    fn retire(&self, alloc: Global, held: HeldJournal, path: &str) -> Result<(), Fault> {
+        retire_file(self.rt, alloc, held, path)
     }
 }

@@ -73,10 +73,18 @@ fn refused_logons() -> [RefusedLogons; CAUSES] {
 fn firms(alloc: Global) -> Result<Vec<FirmEntries>, Memory> {
     let mut firms = Vec::new(alloc);
     if let Some(firm) = FirmId::new(b"A\"A") {
-        firms.push(FirmEntries { firm, entries: 3 })?;
+        firms.push(FirmEntries {
+            firm,
+            entries: 3,
+            is_refused: true,
+        })?;
     }
     if let Some(firm) = FirmId::new(b"A-1") {
-        firms.push(FirmEntries { firm, entries: 0 })?;
+        firms.push(FirmEntries {
+            firm,
+            entries: 0,
+            is_refused: false,
+        })?;
     }
     Ok(firms)
 }
@@ -91,7 +99,9 @@ fn snapshot(alloc: Global, stuck: Option<Part>) -> Result<Snapshot, Memory> {
         stuck,
         entries: 250_000,
         most_entries: 1_000_000,
+        reserved: 20_000,
         book_bytes: 71_250_000,
+        most_bytes: 300_000_000,
         journal_bytes: 43_000_001,
         lacks_memory: false,
         firms: firms(alloc)?,

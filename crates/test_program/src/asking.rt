@@ -1,7 +1,7 @@
 //! What `command_line` takes the words of a line for.
 
 use crate::lines::{say, tell_fault, words_of};
-use gu_command::{Look, StatusAt};
+use gu_command::{Extension, Look, Rolling, StatusAt};
 use gu_server::{KeepOptions, Line, command_line};
 use std::alloc::Global;
 
@@ -59,6 +59,7 @@ fn tell_options(rt: &HostRuntime, alloc: Global, options: &KeepOptions) {
     if options.book.is_asked {
         say(rt, b", ask book");
     }
+    tell_path(rt, b", archive ", &options.archive);
 }
 
 /// Writes how a server serves.
@@ -79,12 +80,30 @@ fn tell_words(rt: &HostRuntime, command: &[u8], words: &[&str]) {
     }
 }
 
-/// Writes what is asked for beside what a start would say of a journal.
-fn tell_look(rt: &HostRuntime, alloc: Global, look: &Look) {
+/// Writes what is asked of a journal.
+fn tell_look(rt: &HostRuntime, alloc: Global, house: &str, look: &Look) {
+    tell_words(rt, b"verify", &[house, look.journal.as_str()]);
     if look.totals {
         say(rt, b", totals");
     }
     tell_limit(rt, alloc, "trade", look.trade);
+}
+
+/// Writes which journal is to be written anew, and how.
+fn tell_extension(rt: &HostRuntime, house: &str, paths: &Extension) {
+    let (journal, larger) = (paths.journal.as_str(), paths.larger.as_str());
+    tell_words(rt, b"extend", &[house, journal, larger, paths.to.as_str()]);
+}
+
+/// Writes which journal's live changes are to begin a new book, and how.
+fn tell_rolling(rt: &HostRuntime, house: &str, rolling: &Rolling) {
+    let paths = &rolling.paths;
+    let (journal, larger) = (paths.journal.as_str(), paths.larger.as_str());
+    tell_words(rt, b"roll", &[house, journal, larger, paths.to.as_str()]);
+    if rolling.is_open {
+        say(rt, b", open");
+    }
+    tell_path(rt, b", map ", &rolling.map);
 }
 
 /// Writes what a line asks for.
@@ -116,13 +135,12 @@ fn tell_line(rt: &HostRuntime, alloc: Global, line: &Line) {
             tell_serving(rt, alloc, *port, *workers, *connections);
             tell_options(rt, alloc, options);
         }
-        Line::Verify { house, look } => {
-            tell_words(rt, b"verify", &[house.as_str(), look.journal.as_str()]);
-            tell_look(rt, alloc, look);
-        }
+        Line::Verify { house, look } => tell_look(rt, alloc, house.as_str(), look),
         Line::Backup { journal, to } => {
             tell_words(rt, b"backup", &[journal.as_str(), to.as_str()]);
         }
+        Line::Extend { house, paths } => tell_extension(rt, house.as_str(), paths),
+        Line::Roll { house, rolling } => tell_rolling(rt, house.as_str(), rolling),
     }
     say(rt, b"\n");
 }

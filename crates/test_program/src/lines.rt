@@ -4,6 +4,7 @@ use crate::journals::Shelf;
 use crate::streams::{AtEnd, Narrow, pieces_of, takes_all, writer_of};
 use gu_server::{Counted, Fault, SystemFiles, run};
 use std::alloc::{AllocError, Global};
+use std::fs::File;
 use std::io::{Eprint, Write};
 use std::net::{Net, TcpListener, TcpStream};
 use std::random::RandomSource;
@@ -66,7 +67,7 @@ pub(crate) fn run_words<
         + Clock
         + RandomSource
         + Net<Stream = TcpStream, Listener = TcpListener>
-        + Files
+        + Files<File = File>
         + Eprint
         + Copy
         + Send
@@ -180,7 +181,7 @@ pub(crate) fn tell<
         + Clock
         + RandomSource
         + Net<Stream = TcpStream, Listener = TcpListener>
-        + Files
+        + Files<File = File>
         + Eprint
         + Copy
         + Send

@@ -26,6 +26,7 @@ use gu_server::{Fault, KeepError, RecordError, RunError, ServeError, ServiceErro
 use lines::{read_line, tell, tell_fault};
 use servers::{play_all, play_kept};
 use std::alloc::Global;
+use std::fs::File;
 use std::io;
 use std::io::Eprint;
 use std::net::{Net, TcpListener, TcpStream};
@@ -94,7 +95,7 @@ fn run_lines<
         + Clock
         + RandomSource
         + Net<Stream = TcpStream, Listener = TcpListener>
-        + Files
+        + Files<File = File>
         + Eprint
         + Copy
         + Send

@@ -12,6 +12,7 @@ use crate::servers::peers::{Message, send_all};
 use crate::servers::scenes::{AAA_LOGON, AAA_SPLIT, LOGON};
 use crate::servers::telling::tell;
 use std::alloc::Global;
+use std::fs::File;
 use std::io::Eprint;
 use std::net::{Ipv4Addr, Net, SocketAddr, TcpListener, TcpStream};
 use std::random::RandomSource;
@@ -122,7 +123,7 @@ pub(crate) fn play_kept<
         + Clock
         + RandomSource
         + Net<Stream = TcpStream, Listener = TcpListener>
-        + Files
+        + Files<File = File>
         + Eprint
         + Copy
         + Send

@@ -34,7 +34,19 @@ pub returns-in-Batch-clause-does : goal.returns-in-Batch-clause-does
 returns-in-Batch-clause-does g c = search rules
 
 -- a journal was copied
-pub returns-clause-does : goal.returns-clause-does
-returns-clause-does g c words line =
+pub returns-in-Backup-clause-does : goal.returns-in-Backup-clause-does
+returns-in-Backup-clause-does g c words line =
     let found = subst (λ (l : Line). IsLine words l) c.in-Backup.is line in
     c.back_up_by.ensures.does words _ _ found.0 (search (rules, found.1)) (search (rules, found.2))
+
+-- a journal was written anew
+pub returns-in-Extend-clause-does : goal.returns-in-Extend-clause-does
+returns-in-Extend-clause-does g c words line =
+    let found = subst (λ (l : Line). IsLine words l) c.in-Extend.is line in
+    c.extend_by.ensures.does words _ found.0 (search (rules, found.1)) found.2 found.3 found.4
+
+-- a new book was begun
+pub returns-clause-does : goal.returns-clause-does
+returns-clause-does g c words line =
+    let found = subst (λ (l : Line). IsLine words l) c.in-Roll.is line in
+    c.roll_by.ensures.does words _ found.0 (search (rules, found.1)) found.2 found.3 found.4 found.5

@@ -1,0 +1,14 @@
+pub mod Firsts
+pub mod Apart
+pub mod Made
+pub mod Lacking
+pub mod Between
+pub mod Empty
+pub mod Reading
+pub mod Why
+pub mod RollWhy
+pub mod Table
+pub mod Renamed
+pub mod OpenTrades
+pub mod OpenNodes
+pub mod Carry
