@@ -12,7 +12,7 @@ import subprocess
 import time
 from concurrent.futures import ThreadPoolExecutor
 
-from harness import PATIENCE, Cluster, Trial, alive, case, children, contents, frame, free_port, is_of, made_house, page, room_for, serving, until
+from harness import ALLOCD, PATIENCE, Cluster, Trial, alive, case, children, contents, frame, free_port, is_of, made_house, page, room_for, serving, until
 from kills import put_book
 
 HUNG = 15  # seconds, after which another machine answers
@@ -134,6 +134,38 @@ def adoption(trial, journal):
     status, said = trial.word("adopt", trial.house, other, "adopted")
     case(status == 1 and "is no whole journal" in said, f"what isn't a whole journal is refused: {said.strip()[:100]}")
     trial.replayed("adopted")
+
+
+def extension(trial):
+    """A book that two machines served goes on under a house file that has more: extended on one of them, adopted under another name, and served."""
+    a, b = pair(trial, "day")
+    load = trial.load("day", [a, b], PAUSE="0.02")
+    until(lambda: trial.state("day")[0] > 200)
+    load.end()
+    a.stop(signal.SIGTERM)
+    b.stop(signal.SIGTERM)
+    entries, larger = trial.state("day")[0], f"{trial.room}/larger.house"
+    made_house(larger, "FIRM DDD\nACCOUNT DDD X\n")
+    more = f"{trial.room}/extended-journal"
+    done = subprocess.run([ALLOCD, "extend", trial.house, a.journal, larger, more], stdout=subprocess.PIPE, stderr=subprocess.STDOUT, text=True)
+    case(done.returncode == 0, f"a book of {entries} entries is extended: {done.stdout}")
+    status, said = trial.word("adopt", larger, more, "day")
+    case(status == 1, f"under its old name it isn't adopted: {said.strip()[:100]}")
+    status, said = trial.word("adopt", larger, more, "day-2", env=dict(trial.cluster.env, TRACE=f"{trial.room}/day-2.trace"))
+    case(status == 0 and trial.state("day-2")[0] == entries, f"under another it is, whole: {said.strip().splitlines()[-1][:100]}")
+    c, d = pair(trial, "day-2", house=larger)
+    case(c.keeps(trial.show("day-2")), "an empty machine serves all of it")
+    with socket.create_connection(("127.0.0.1", c.port), timeout=PATIENCE) as it:
+        it.sendall(frame(b"35=A|49=DDD|56=HSE|34=1|52=20260302-09:00:00|98=0|108=30|1137=9|".replace(b"|", b"\x01")))
+        case(b"\x0135=A\x01" in it.recv(1 << 16), "and the new firm logs on")
+    own = Trial(trial.room, larger, trial.cluster)
+    own.started = trial.started
+    load = own.load("day-2", [c, d], PAUSE="0.02")
+    case(until(lambda: own.state("day-2")[0] > entries + 20), "and the firms go on")
+    load.end()
+    c.stop(signal.SIGTERM)
+    d.stop(signal.SIGTERM)
+    trial.replayed("day-2")
 
 
 def leased(trial, key, value, seconds):
