@@ -41,7 +41,8 @@ pub(crate) fn unrolled(alloc: Global, paths: &Extension, error: RollError) -> Fa
     match error {
         RollError::Extend(ExtendError::Lacks(lack)) => lacking(alloc, paths.larger.as_str(), lack),
         RollError::Extend(error) => unextended(alloc, paths, error),
-        RollError::Undone(_) => fault_at(alloc, paths.journal.as_str(), error),
+        RollError::OtherOpening(_) => fault_at(alloc, paths.larger.as_str(), error),
+        RollError::Unlike(_) => fault_at(alloc, paths.to.as_str(), error),
     }
 }
 

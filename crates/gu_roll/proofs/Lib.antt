@@ -12,3 +12,6 @@ pub mod Renamed
 pub mod OpenTrades
 pub mod OpenNodes
 pub mod Carry
+pub mod Consented
+pub mod More
+pub mod Again

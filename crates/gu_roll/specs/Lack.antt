@@ -33,16 +33,29 @@ first [] = None
 first (None ∷ rest) = first rest
 first (Some lack ∷ rest) = Some lack
 
--- What the second table lacks to extend the first, the first of these: its clearing house, an
--- agreement of the opening, counted from 1, a firm, an account, an instrument, the fixed terms of
--- two firms of the first table, and that two such firms have no others. Of each kind it is the
--- first in the order of the first table, and the last in that of the second.
-abbrev pub lack_of : House → House → Option Lack
-lack_of t u = first (
-    (if bytes_eq u.house t.house then None else Some OtherHouse)
-    ∷ option_map OtherOpening (first_apart 1 u.opening t.opening)
-    ∷ option_map NoFirm (first_without (knows_firm u) t.firms)
+-- the clearing house of the first table, where the second has another
+abbrev pub house_lack : House → House → Option Lack
+house_lack t u = if bytes_eq u.house t.house then None else Some OtherHouse
+
+-- what the second table lacks of the lines of the first, but for the opening: a firm, an account,
+-- an instrument, the fixed terms of two firms of the first table, and that two such firms have no
+-- others. Of each kind it is the first in the order of the first table, and the last in that of the
+-- second.
+abbrev pub line_lacks : House → House → List (Option Lack)
+line_lacks t u =
+    option_map NoFirm (first_without (knows_firm u) t.firms)
     ∷ option_map NoAccount (first_without (λ a. knows_account u a.firm a.name) t.accounts)
     ∷ option_map NoInstrument (first_without (knows_instrument u) t.instruments)
     ∷ option_map (λ e. OtherTerms e.0) (first_without (keeps_terms t u) t.agreements)
-    ∷ option_map (λ e. NewTerms e.0) (first_without (keeps_terms t u) u.agreements) ∷ [])
+    ∷ option_map (λ e. NewTerms e.0) (first_without (keeps_terms t u) u.agreements) ∷ []
+
+-- What the second table lacks to extend the first: its clearing house, an agreement of the opening,
+-- counted from 1, or a line.
+abbrev pub lack_of : House → House → Option Lack
+lack_of t u =
+    first (house_lack t u ∷ option_map OtherOpening (first_apart 1 u.opening t.opening)
+    ∷ line_lacks t u)
+
+-- what it lacks beside the opening
+abbrev pub other_lack_of : House → House → Option Lack
+other_lack_of t u = first (house_lack t u ∷ line_lacks t u)

@@ -130,7 +130,7 @@ fn moved(
 }
 
 /// Whether a journal under a house table can be written anew under another.
-pub(crate) fn may_extend(house: &House, new: &House) -> Result<(), ExtendError>
+fn may_extend(house: &House, new: &House) -> Result<(), ExtendError>
     ensures extends { OnOk result (Extends house.now new.now) }
     ensures lawful { OnOk result (HasLawfulOpening house.now) }
     ensures small { OnOk result (length house.now.opening ≤ most_entries) }

@@ -6,7 +6,6 @@ ghost use Rattle.gu_roll.specs.declared.error.ExtendError.TheVariants as extend;
 ghost use Rattle.gu_roll.specs.declared.error.RollError.TheVariants as error;
 
 use crate::lack::Lack;
-use gu_base::Number;
 use gu_journal::{JournalError, RecoverError};
 use std::alloc::AllocError;
 use std::fmt;
@@ -44,9 +43,11 @@ impl fmt::Display for ExtendError {
 pub enum RollError {
     /// It wouldn't be extended either, or memory ran out.
     Extend(ExtendError),
-    /// The agreement of the opening that has this number was reversed, and a new book under the
-    /// same opening would make it again.
-    Undone(Number),
+    /// The agreement of this number of the new opening, counted from 1, isn't the one at its place
+    /// among those of the old opening that weren't reversed, or only one of the two has it.
+    OtherOpening(usize),
+    /// The entry of this number of the new book isn't accepted as it was.
+    Unlike(usize),
 }
 
 impl From<AllocError> for RollError {
@@ -61,13 +62,13 @@ impl fmt::Display for RollError {
     fn fmt<W: fmt::Write>(&self, f: &mut fmt::Formatter<W>) -> fmt::Result {
         match self {
             RollError::Extend(error) => write!(f, "{error}"),
-            RollError::Undone(number) => {
+            RollError::OtherOpening(number) => {
                 write!(
                     f,
-                    "the agreement of AGREEMENT line {number} was reversed, and a new book would \
-                     make it again"
+                    "its AGREEMENT line {number} isn't the old file's next one that wasn't reversed"
                 )
             }
+            RollError::Unlike(number) => write!(f, "entry {number} isn't accepted again"),
         }
     }
 }

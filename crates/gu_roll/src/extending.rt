@@ -2,8 +2,9 @@
 
 ghost use Rattle.std.specs.Prelude.{◌≡◌, ◌↔◌, true, slice_get, IsOk, IfErr, OnOk, Some, option_map};
 ghost use Rattle.gu_base.specs.House.{knows_firm, knows_account, knows_instrument};
-ghost use Rattle.gu_lives.specs.Extends.{Extends, extends, keeps_terms, same_terms};
-ghost use Rattle.gu_roll.specs.Lack.{first_apart, first_without, lack_of, same_options};
+ghost use Rattle.gu_lives.specs.Extends.{Extends, HasMore, extends, keeps_terms, same_terms};
+ghost use Rattle.gu_roll.specs.Lack.{first, first_apart, first_without, house_lack, lack_of};
+ghost use Rattle.gu_roll.specs.Lack.{line_lacks, other_lack_of, same_options};
 
 use crate::lack::Lack;
 use gu_base::{Account, Agreement, Command, FirmId, InstrumentId, Pair};
@@ -22,7 +23,7 @@ fn are_same_terms(one: Option<Agreement>, other: Option<Agreement>) -> bool
 }
 
 /// The agreement that the opening call at this place makes.
-fn made_at(house: &House, place: usize) -> Option<(Pair, Agreement)>
+pub(crate) fn made_at(house: &House, place: usize) -> Option<(Pair, Agreement)>
     ensures { result ≡ slice_get house.now.opening place }
 {
     let called = house.opening_at(place)?;
@@ -48,7 +49,10 @@ fn made_at(house: &House, place: usize) -> Option<(Pair, Agreement)>
 }
 
 /// Whether both are the same pair with the same terms, or none.
-fn are_same_made(one: Option<(Pair, Agreement)>, other: Option<(Pair, Agreement)>) -> bool
+pub(crate) fn are_same_made(
+    one: Option<(Pair, Agreement)>,
+    other: Option<(Pair, Agreement)>,
+) -> bool
     ensures { result ≡ same_options one other }
 {
     match (one, other) {
@@ -148,16 +152,20 @@ fn first_other_terms(old: &House, new: &House, lines: &House) -> Option<Pair>
     None
 }
 
-/// What the new table lacks to extend the old one.
-fn first_lack(old: &House, new: &House) -> Option<Lack>
-    ensures { result ≡ lack_of old.now new.now }
+/// The clearing house of the old table, where the new one has another.
+fn other_house(old: &House, new: &House) -> Option<Lack>
+    ensures { result ≡ house_lack old.now new.now }
 {
     if new.house() != old.house() {
         return Some(Lack::OtherHouse);
     }
-    if let Some(number) = first_other_opening(old, new) {
-        return Some(Lack::OtherOpening(number));
-    }
+    None
+}
+
+/// What the new table lacks of the old one's lines, but for the opening.
+fn first_line_lack(old: &House, new: &House) -> Option<Lack>
+    ensures { result ≡ first (line_lacks old.now new.now) }
+{
     if let Some(firm) = first_lost_firm(old, new) {
         return Some(Lack::NoFirm(firm));
     }
@@ -171,6 +179,40 @@ fn first_lack(old: &House, new: &House) -> Option<Lack>
         return Some(Lack::OtherTerms(pair));
     }
     first_other_terms(old, new, new).map(Lack::NewTerms)
+}
+
+/// What the new table lacks to extend the old one.
+fn first_lack(old: &House, new: &House) -> Option<Lack>
+    ensures { result ≡ lack_of old.now new.now }
+{
+    if let Some(lack) = other_house(old, new) {
+        return Some(lack);
+    }
+    if let Some(number) = first_other_opening(old, new) {
+        return Some(Lack::OtherOpening(number));
+    }
+    first_line_lack(old, new)
+}
+
+/// Whether a house table has more than another, whatever their openings: it has the same clearing
+/// house, each firm, account and instrument, and between two firms that the other has the same
+/// fixed terms, or none.
+///
+/// # Errors
+///
+/// The first thing that it lacks, as `check_extends` says.
+pub(crate) fn check_has_more(old: &House, new: &House) -> Result<(), Lack>
+    ensures more { OnOk result (HasMore old.now new.now) }
+    ensures lack { IfErr result (λ lack. other_lack_of old.now new.now ≡ Some lack) }
+{
+    a_larger_house_keeps_the_history();
+    if let Some(lack) = other_house(old, new) {
+        return Err(lack);
+    }
+    match first_line_lack(old, new) {
+        None => Ok(()),
+        Some(lack) => Err(lack),
+    }
 }
 
 /// Whether a house table extends another: it has the same clearing house and the same opening, each

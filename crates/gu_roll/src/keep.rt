@@ -1,4 +1,4 @@
-//! Which live changes of a book a new one keeps.
+//! What is asked for where a book is rolled.
 
 /// Which live changes of a book a new one keeps.
 #[derive(Clone, Copy, PartialEq, Eq)]
@@ -8,4 +8,13 @@ pub enum Keep {
     /// Those of the trades with a part that waits for a decision, and those of no trade: the
     /// agreements and the raises.
     Open,
+}
+
+/// What is asked for where a book is rolled.
+#[derive(Clone, Copy)]
+pub struct Asked {
+    /// Which live changes are kept.
+    pub keep: Keep,
+    /// Whether it is to be told which entry of the new book concerns which firm.
+    pub shares: bool,
 }

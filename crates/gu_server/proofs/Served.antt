@@ -15,13 +15,13 @@ use Rattle.gu_command.specs.Lines.{command_in, house_in, journal_in, trade_in, t
 use Rattle.gu_command.specs.Lines.{larger_in, open_in}
 use Rattle.gu_copies.specs.Verified.{Says, Looks, IsFaultOf, Copies}
 use Rattle.gu_copies.specs.Extended.{IsWrittenAnew}
-use Rattle.gu_copies.specs.Rolled.{HasRolled, keep_meant}
+use Rattle.gu_copies.specs.Rolled.{Begins, Rolls, keep_meant}
 use Rattle.gu_copies.specs.declared.error.LookError.{LookError}
 use Rattle.gu_copies.specs.declared.error.LookError.TheVariants as look
 use Rattle.gu_keep.specs.Keeping.{Keeps}
 use Rattle.sha2.specs.Sha256.{sha256}
 use Rattle.gu_server.specs.Program.{Names, Asks, AsksOfJournal, Serves, HasVerified, HasDone, Does, IsHouseFault}
-use Rattle.gu_server.specs.Program.{IsPinnedAt}
+use Rattle.gu_server.specs.Program.{IsPinnedAt, HasBegun}
 use Rattle.gu_command.specs.declared.fault.Fault.{Fault}
 use Rattle.gu_command.specs.declared.fault.Fault.TheVariants as fault
 
@@ -222,39 +222,65 @@ extended_by words bytes_at journal_at is_copied path larger journal to t u pin n
     refused_by words bytes_at journal_at is_copied told told e
     (inr (inr (inr (inl (asks_for (codes "extend") words bytes_at path t is asked old.0))))) wrong refl
 
--- the words ask for a new book, which was begun, or something was wrong
-pub begun_by : (words : List Text) (bytes_at journal_at : Text → Option (List ℕ))
-    (is_copied : Text → List ℕ → Type 0) (path larger journal to : Text) (is_open : Bool) (t u : House)
-    (pin new_pin : List ℕ) (told : Told) (r : Result (Unit {0}) Fault) → command_in words ≡ Some (codes "roll")
-    → house_in words ≡ Some path → larger_in words ≡ Some larger → journal_in words ≡ Some journal
-    → copy_in words ≡ Some to → flag_meant (open_in words) ≡ is_open
-    → IsPinnedAt (bytes_at path) t pin → IsPinnedAt (bytes_at larger) u new_pin
-    → OnOk r (HasRolled t u pin new_pin (journal_at journal) (keep_meant is_open) (is_copied to))
-    → IfErr r (λ e. IsTrue (is_keep_fault e)) → Does words bytes_at journal_at is_copied told told r
-begun_by words bytes_at journal_at is_copied path larger journal to is_open t u pin new_pin told (Ok done) is asked
-    wider at copy flag old new begun wrong =
-    inr (inr (inr (inr (inr (inr (inr (record {
-      asks = asks_for (codes "roll") words bytes_at path t is asked old.0;
-      larger = larger;
-      wider = wider;
-      house = u;
-      pin = new_pin;
-      pinned = new;
-      journal = journal;
-      named = at;
-      to = to;
-      asked = copy;
-      begun =
-          subst (λ (b : Bool).
-          HasRolled t u (sha256 old.0.0) new_pin (journal_at journal) (keep_meant b) (is_copied to)) (sym flag)
-          (subst (λ (p : List ℕ). HasRolled t u p new_pin (journal_at journal) (keep_meant is_open) (is_copied to))
-          old.1 begun);
-      same = refl;
-    })))))))
-begun_by words bytes_at journal_at is_copied path larger journal to is_open t u pin new_pin told (Err e) is asked
-    wider at copy flag old new begun wrong =
-    refused_by words bytes_at journal_at is_copied told told e
-    (inr (inr (inr (inr (asks_for (codes "roll") words bytes_at path t is asked old.0))))) wrong refl
+-- nothing was read or written
+untouched : {l : Option (List ℕ)} {x f : ℕ} {b c : Option (List ℕ)} {v w : ℕ} → c ≡ b → w ≡ v
+    → tells l x f c w ≡ tells l x f b v
+untouched {l} {x} {f} {b} {c} {v} {w} same never = ap (λ y. tells l x f y w) same ∙ ap (λ y. tells l x f b y) never
+
+module _ (words : List Text) (bytes_at journal_at : Text → Option (List ℕ)) (is_copied : Text → List ℕ → Type 0)
+    (path larger journal to : Text) (is_open : Bool) (t u : House) (pin new_pin : List ℕ)
+    (is : command_in words ≡ Some (codes "roll")) (asked : house_in words ≡ Some path)
+    (wider : larger_in words ≡ Some larger) (at : journal_in words ≡ Some journal) (copy : copy_in words ≡ Some to)
+    (flag : flag_meant (open_in words) ≡ is_open) (old : IsPinnedAt (bytes_at path) t pin)
+    (new : IsPinnedAt (bytes_at larger) u new_pin) where
+  -- the words ask for a new book
+  abbrev asks_to_roll : Asks (codes "roll") words bytes_at
+  asks_to_roll = asks_for (codes "roll") words bytes_at path t is asked old.0
+
+  -- it was begun
+  has_begun : (l : Option (List ℕ)) (x f : ℕ) (b c : Option (List ℕ)) (v w : ℕ) (r : Result (Unit {0}) RunError)
+      → Begins t u pin new_pin (journal_at journal) (keep_meant is_open) (is_copied to) b c v w r
+      → HasBegun words bytes_at journal_at is_copied (tells l x f b v) (tells l x f c w) r
+  has_begun l x f b c v w r begins = record {
+    asks = asks_to_roll;
+    larger = larger;
+    wider = wider;
+    house = u;
+    pin = new_pin;
+    pinned = new;
+    journal = journal;
+    named = at;
+    to = to;
+    asked = copy;
+    unread = (refl, refl, refl);
+    begins =
+        subst (λ (o : Bool).
+        Begins t u (sha256 old.0.0) new_pin (journal_at journal) (keep_meant o) (is_copied to) b c v w r) (sym flag)
+        (subst (λ (p : List ℕ).
+        Begins t u p new_pin (journal_at journal) (keep_meant is_open) (is_copied to) b c v w r) old.1 begins);
+  }
+
+  -- something was wrong
+  not_begun : (l : Option (List ℕ)) (x f : ℕ) (b c : Option (List ℕ)) (v w : ℕ) (e : Fault) → IsTrue (is_keep_fault e)
+      → c ≡ b → w ≡ v
+      → Does {A = Unit {0}} words bytes_at journal_at is_copied (tells l x f b v) (tells l x f c w) (Err e)
+  not_begun l x f b c v w e wrong same never =
+      refused_by words bytes_at journal_at is_copied _ _ e (inr (inr (inr (inr asks_to_roll)))) wrong
+      (untouched same never)
+
+  pub begun_by : (l : Option (List ℕ)) (x f : ℕ) (b c : Option (List ℕ)) (v w : ℕ) (r : Result (Unit {0}) Fault)
+      → Rolls t u pin new_pin (journal_at journal) (keep_meant is_open) (is_copied to) b c v w r
+      → Does words bytes_at journal_at is_copied (tells l x f b v) (tells l x f c w) r
+  begun_by l x f b c v w (Ok done) rolls =
+      inr (inr (inr (inr (inr (inr (inr (has_begun l x f b c v w (Ok done) rolls)))))))
+  begun_by l x f b c v w (Err (fault.Run e)) rolls =
+      inr (e, refl, inr (inr (inr (inr (inr (inr (inr (has_begun l x f b c v w (Err e) rolls))))))))
+  begun_by l x f b c v w (Err (fault.Journal t)) rolls = not_begun l x f b c v w _ rolls.2 rolls.0 rolls.1
+  begun_by l x f b c v w (Err (fault.Keep e)) rolls = not_begun l x f b c v w _ rolls.2 rolls.0 rolls.1
+  begun_by l x f b c v w (Err (fault.Usage t)) rolls = absurd (false≢true rolls.2)
+  begun_by l x f b c v w (Err fault.HouseFile) rolls = absurd (false≢true rolls.2)
+  begun_by l x f b c v w (Err (fault.HouseLine e)) rolls = absurd (false≢true rolls.2)
+  begun_by l x f b c v w (Err (fault.Service e)) rolls = absurd (false≢true rolls.2)
 
 -- the house file of the words is at fault, and nothing was read or written
 pub stopped : (words : List Text) (bytes_at journal_at : Text → Option (List ℕ))

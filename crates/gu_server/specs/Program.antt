@@ -17,7 +17,7 @@ use Rattle.gu_command.specs.Lines.{totals_in, copy_in, larger_in, open_in}
 use Rattle.gu_command.specs.Flags.{flag_meant}
 use Rattle.gu_copies.specs.Verified.{Says, Copies}
 use Rattle.gu_copies.specs.Extended.{IsWrittenAnew}
-use Rattle.gu_copies.specs.Rolled.{HasRolled, keep_meant}
+use Rattle.gu_copies.specs.Rolled.{Begins, keep_meant}
 use Rattle.sha2.specs.Sha256.{sha256}
 use Rattle.gu_command.specs.declared.fault.Fault.{Fault}
 use Rattle.gu_command.specs.declared.fault.Fault.TheVariants.{Usage, HouseFile, HouseLine, Service}
@@ -179,9 +179,10 @@ HasExtended words bytes_at journal_at is_copied old new (Ok x) =
 HasExtended words bytes_at journal_at is_copied old new (Err e) = ⊥
 
 -- a new book was begun where the words say, with what is live in the journal that they name, under
--- the house table that their second house file names; nothing was read or written beside that
-pub record IsBegun (words : List Text) (bytes_at journal_at : Text → Option (List ℕ))
-    (is_copied : Text → List ℕ → Type 0) (old new : Told) : Type 0 where
+-- the house table that their second house file names, and its line was written
+pub record HasBegun {A : Type 0} (words : List Text) (bytes_at journal_at : Text → Option (List ℕ))
+    (is_copied : Text → List ℕ → Type 0) (old new : Told) (result : Result A RunError)
+    : Type 0 where
   pub asks : Asks (codes "roll") words bytes_at
   pub larger : Text
   pub wider : larger_in words ≡ Some larger
@@ -192,16 +193,10 @@ pub record IsBegun (words : List Text) (bytes_at journal_at : Text → Option (L
   pub named : journal_in words ≡ Some journal
   pub to : Text
   pub asked : copy_in words ≡ Some to
-  pub begun : HasRolled asks.house house (sha256 asks.named.0) pin (journal_at journal)
-      (keep_meant (flag_meant (open_in words))) (is_copied to)
-  pub same : new ≡ old
-
-abbrev pub HasBegun : {A : Type 0} → List Text → (Text → Option (List ℕ))
-    → (Text → Option (List ℕ)) → (Text → List ℕ → Type 0) → Told → Told → Result A RunError
-    → Type 0
-HasBegun words bytes_at journal_at is_copied old new (Ok x) =
-    IsBegun words bytes_at journal_at is_copied old new
-HasBegun words bytes_at journal_at is_copied old new (Err e) = ⊥
+  pub unread : (new.left ≡ old.left) × (new.made ≡ old.made) × (new.reads_failed ≡ old.reads_failed)
+  pub begins : Begins asks.house house (sha256 asks.named.0) pin (journal_at journal)
+      (keep_meant (flag_meant (open_in words))) (is_copied to) old.contents new.contents
+      old.writes_failed new.writes_failed result
 
 -- ---- the program
 

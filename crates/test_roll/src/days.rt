@@ -2,11 +2,11 @@
 
 use crate::journals::{KEY, house_of, journal_of, recovered};
 use crate::lines::{Call, call_of};
-use crate::telling::{compare, show_history};
+use crate::telling::{compare, show_history, show_lost, show_shares};
 use gu_base::{Answer, Command, NodeName, Number};
 use gu_book::{Book, HashKey};
 use gu_journal::Recovered;
-use gu_roll::{Keep, PinnedHouse, RolledBook, roll};
+use gu_roll::{Asked, Keep, PinnedHouse, RolledBook, roll};
 use std::alloc::Global;
 use std::str;
 
@@ -206,8 +206,15 @@ fn rolled(rt: &impl Print, alloc: Global, day: Day<'_>, book: &Book) -> Option<R
     let bytes = journal_of(rt, alloc, day.house.as_bytes(), book, 3)?;
     let old = house_of(alloc, day.house.as_bytes())?;
     let new = house_of(alloc, day.new.as_bytes())?;
-    match roll(alloc, bytes, old, new, HashKey::new(KEY), day.keep) {
-        Ok(made) => Some(made),
+    let asked = Asked {
+        keep: day.keep,
+        shares: true,
+    };
+    match roll(alloc, bytes, old, new, HashKey::new(KEY), asked) {
+        Ok(made) => {
+            let _ = show_lost(rt, &made.lost) && show_shares(rt, &made.shares);
+            Some(made)
+        }
         Err(error) => {
             let _ = rt.println(error);
             None
@@ -223,7 +230,12 @@ fn both_of(
     old: Book,
     made: RolledBook,
 ) -> Option<Both> {
-    let RolledBook { bytes, numbers } = made;
+    let RolledBook {
+        bytes,
+        numbers,
+        lost: _,
+        shares: _,
+    } = made;
     let found = recovered(rt, alloc, day.new.as_bytes(), bytes);
     match found {
         Some(Recovered { book: new, journal }) => {

@@ -2,6 +2,7 @@
 
 use gu_base::{Command, Entry, FirmId, Memory, Number};
 use gu_book::Book;
+use gu_roll::{Lost, Share};
 use gu_tree::Row;
 use std::alloc::Global;
 
@@ -45,6 +46,27 @@ pub(crate) fn show_history(rt: &impl Print, history: &[Entry], numbers: &[Number
         }
     }
     history.len() == numbers.len()
+}
+
+/// Writes how much is lost.
+pub(crate) fn show_lost(rt: &impl Print, lost: &Lost) -> bool {
+    let Lost {
+        reversed,
+        closed,
+        consented,
+    } = *lost;
+    println!(rt; "lost: reversed {reversed} closed {closed} consented {consented}").is_ok()
+}
+
+/// Writes which entry concerns which firm, with its number and the one that it had.
+pub(crate) fn show_shares(rt: &impl Print, shares: &[Share]) -> bool {
+    for share in shares {
+        let Share { firm, old, new } = share;
+        if println!(rt; "{new} was {old} for {firm}").is_err() {
+            return false;
+        }
+    }
+    true
 }
 
 /// The house, and then its firms.

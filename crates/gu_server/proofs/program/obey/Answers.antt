@@ -49,4 +49,4 @@ returns-in-Extend-clause-does g c words line =
 pub returns-clause-does : goal.returns-clause-does
 returns-clause-does g c words line =
     let found = subst (λ (l : Line). IsLine words l) c.in-Roll.is line in
-    c.roll_by.ensures.does words _ found.0 (search (rules, found.1)) found.2 found.3 found.4 found.5
+    c.roll_by.ensures.does words _ _ _ found.0 (search (rules, found.1)) found.2 found.3 found.4 found.5

@@ -1,6 +1,6 @@
 use Rattle.std.proofs.Common.{◌≡◌, ◌≤◌, ℕ, drop}
 use Rattle.gu_base.specs.History.{is_reversed}
-use Rattle.gu_roll.proofs.picking.first_undone.Given as goal
+use Rattle.gu_roll.proofs.picking.are_live.Given as goal
 
 abbrev pub invariant-loop-entry : goal.invariant-loop-entry
 invariant-loop-entry l =
