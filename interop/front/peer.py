@@ -59,12 +59,12 @@ class Door:
         return context.wrap_socket(self.bare())
 
     def say(self, certificate, *pieces, **more):
-        """Connects by a certificate and sends these pieces: what comes back, in words."""
+        """Connects by a certificate and sends these pieces, each by itself: what comes back, in words."""
         try:
             with self.connect(certificate, **more) as stream:
-                for piece in pieces:
+                for at, piece in enumerate(pieces):
+                    time.sleep(0.1 if at else 0)
                     stream.sendall(piece)
-                    time.sleep(0.1)
                 return told(heard(stream))
         except (ssl.SSLError, ConnectionResetError, BrokenPipeError):
             return "turned away"

@@ -9,11 +9,15 @@ import re
 import signal
 import socket
 import subprocess
+import sys
 import time
 from concurrent.futures import ThreadPoolExecutor
 
-from harness import ALLOCD, PATIENCE, Cluster, Trial, alive, case, children, contents, frame, free_port, is_of, made_house, page, room_for, serving, until
+from harness import ALLOCD, HERE, PATIENCE, Cluster, Machine, Trial, alive, case, children, contents, frame, free_port, is_of, made_house, page, room_for, serving, until
 from kills import put_book
+
+sys.path.insert(1, os.path.dirname(HERE))
+import session
 
 HUNG = 15  # seconds, after which another machine answers
 COVERED = 2  # seconds, after which nothing more is written behind the last call
@@ -166,6 +170,111 @@ def extension(trial):
     c.stop(signal.SIGTERM)
     d.stop(signal.SIGTERM)
     trial.replayed("day-2")
+
+
+def roll(trial):
+    """A day's end: what waits for a decision goes on in a new book, rolled and adopted on one machine, served by both by its name."""
+    own = Trial(trial.room, opened_house(f"{trial.room}/opened.house"), trial.cluster)
+    own.started = trial.started
+    a, b = pair(own, "tonight")
+    load = own.load("tonight", [a, b], PAUSE="0.02")
+    until(lambda: own.state("tonight")[0] > 200)
+    load.end()
+    live = [1, 2, *left_open(a.port)]  # the first two are the house file's
+    a.stop(signal.SIGTERM)
+    b.stop(signal.SIGTERM)
+    old, (c, d) = a.kept(), (own.machine(it, "tomorrow", "--", "--book", "tomorrow", "--ask-book") for it in "AB")
+    words = ["roll", own.house, a.journal, own.house, c.journal, "--open", "--map", f"{c.journal}.map"]
+    done = subprocess.run([ALLOCD, *words], stdout=subprocess.PIPE, stderr=subprocess.STDOUT, text=True)
+    case(done.returncode == 0, f"a book of {own.state('tonight')[0]} entries is rolled: {done.stdout.strip()}")
+    numbers = mapped(f"{c.journal}.map")
+    case([*numbers.items()] == [(it, new) for new, it in enumerate(live, 1)], f"the map has terms, and trades with an offer: {numbers}")
+    retired = f"{a.journal}.before"
+    case(not os.path.exists(a.journal) and os.path.exists(retired) and contents(retired).startswith(old), "the old journal is .before")
+    status, said = own.word("adopt", own.house, c.journal, "tonight")
+    case(status == 1 and "doesn't begin" in said, f"under the old name the new one isn't adopted: {said.strip()[:100]}")
+    status, said = own.word("adopt", own.house, c.journal, "tomorrow", env=c.env)
+    case(status == 0 and own.state("tomorrow")[0] == len(live), f"under its own it is, whole: {said.strip().splitlines()[-1][:100]}")
+    asked = {numbers[it]: entries_of(old).get(it) for it in live[2:] if it in numbers}
+    served_by_name(own, [c, d], asked, [numbers.get(it) for it in (live[5], live[-1])])
+    own.replayed("tonight"), own.replayed("tomorrow")
+
+
+def opened_house(path):
+    """A house file whose agreements are the first entries of its book."""
+    made_house(path)
+    text = contents(path)
+    with open(path, "wb") as it:
+        it.write(text.replace(b"GIVEUP 1", b"GIVEUP 2", 1))
+    return path
+
+
+def left_open(port):
+    """Leaves three offers: alone, beside one that is claimed, and behind a claim that was undone. Gives what lives on of it, and terms."""
+    house, giver, taker, third = firms = [session.Firm(("127.0.0.1", port), it) for it in ("HSE", "AAA", "BBB", "CCC")]
+    live = [entered(house, "J", "agreed", session.agreed("CCC", "AAA", 50, 1000))]
+    live.append(entered(third, "J", "raised", session.raised("BBB", 100)))
+    for name, given in (("waits", 1), ("claimed", 2), ("undone", 1)):
+        live.append(entered(house, "AE", name, session.trade("AAA", "A1", 10, "ESZ6")))
+        parts = [session.part(10 - 2 * given, "A2"), *[session.part(2, taker="BBB")] * given]
+        live.append(entered(giver, "J", name, session.split(f"{live[-1]}.0", *parts)))
+        if name == "claimed":
+            live.append(entered(taker, "J", name, session.claim(f"{live[-1]}.2", "B1")))
+    claim = entered(taker, "J", "undone", session.claim(f"{live[-1]}.2", "B1"))
+    for firm, command in ((giver, "consent"), (taker, "consent"), (taker, "reverse")):
+        entered(firm, "J", command, session.on_entry(command, claim))
+    for it in firms:
+        it.leave()
+    return live
+
+
+def entered(firm, kind, id, fields):
+    """The number of a command's entry; 0 where it isn't accepted."""
+    try:
+        said = firm.ask(kind, id, fields, PATIENCE)
+    except session.Closed:
+        return 0
+    return said.count(793) or int(said.get(58).partition("entry ")[2] or 0)
+
+
+def mapped(path):
+    """The new number of each old one, in their order."""
+    lines = contents(path).decode().split()[1:] if os.path.exists(path) else []
+    return dict(tuple(map(int, it.split(","))) for it in lines)
+
+
+def entries_of(journal):
+    """Who asked for each entry of a journal, and by which id, by its number."""
+    bodies = re.findall(rb"8=FIXT\.1\.1\x019=\d+\x01(.*?)\x0110=\d{3}\x01", journal, re.S)
+    fields = [dict(it.split(b"=", 1) for it in body.split(b"\x01")) for body in bodies]
+    return {int(it[b"34"]): (it[b"49"], it.get(b"70") or it[b"571"]) for it in fields if it[b"35"] in (b"J", b"AE")}
+
+
+def served_by_name(trial, both, asked, offers):
+    """Two machines serve a rolled book: both have what was asked, by its firms and ids, and no more. On each an offer is claimed."""
+    for it, comes in zip(both, (Machine.serves, Machine.follows)):
+        it.start()
+        until(lambda: comes(it))
+    kept = lambda: [trial.show("tomorrow"), *(it.kept() for it in both)]
+    case(until(lambda: all(entries_of(it) == asked for it in kept())), f"both machines and etcd have the {len(asked)} entries of the map")
+    refused = "5006 has to name the book" in refusal(both[0], "") and "another book" in refusal(both[0], "tonight")
+    case(refused, "who doesn't name the new book isn't let in")
+    for number, (it, offer) in enumerate(zip(both, offers), len(asked) + 3):
+        until(it.serves)
+        taker = session.Firm(("127.0.0.1", it.port), "BBB", book="tomorrow")
+        claimed = entered(taker, "J", f"next-{offer}", session.claim(f"{offer}.2", "B1"))
+        case(claimed == number, f"{it.name} serves it: BBB's claim of {offer}.2 is entry {claimed}")
+        taker.leave()
+        it.stop(signal.SIGTERM)
+
+
+def refusal(machine, book):
+    """Why a Logon that names this book, or none, isn't answered by another."""
+    try:
+        session.Firm(("127.0.0.1", machine.port), "BBB", book=book).connect()
+        return "it is on"
+    except session.Closed as why:
+        return str(why)
 
 
 def leased(trial, key, value, seconds):
@@ -428,7 +537,7 @@ def options(trial):
     house, port = f"{trial.room}/long.house", free_port()
     made_house(house, "".join(f"ACCOUNT AAA {'X' * 11}{i}\n" for i in range(80_000)))
     status = f"{trial.room}/status"
-    words = ["--metrics", str(port), "--", "--log-calls", "--status", status, "--per-firm", "3"]
+    words = ["--metrics", str(port), "--hang", "60", "--", "--log-calls", "--status", status, "--per-firm", "3"]
     a = trial.machine("A", "long", *words, house=house).start(again=False)
     case(until(a.serves), f"a house file of {os.path.getsize(house)} bytes: {a.last()[-100:]}")
     own = Trial(trial.room, house, trial.cluster)
