@@ -21,7 +21,7 @@ use Rattle.gu_command.specs.Lines.{port_in, workers_in, connections_in, told_in,
 use Rattle.gu_command.specs.Lines.{workers_meant}
 use Rattle.gu_command.specs.Lines.{connections_meant, IsLine, IsLineOf, AsksForBatch, AsksForTrace, AsksToServe}
 use Rattle.gu_command.specs.Lines.{AsksToKeep, AsksToVerify, AsksToBackUp, AsksToExtend, totals_in, copy_in}
-use Rattle.gu_command.specs.Lines.{larger_in, open_in, map_in, AsksToRoll}
+use Rattle.gu_command.specs.Lines.{larger_in, open_in, map_in, AsksToRoll, firm_in, AsksForStatement}
 use Rattle.gu_command.specs.Options.{flag_meant, limit_meant, limit_or, usual_meant}
 use Rattle.gu_command.specs.Options.{AreLimitsOf, AreOptionsOf, AreMeant, no_options}
 use Rattle.gu_command.specs.Naming.{name_meant, asking_meant, no_book, IsBookOf}
@@ -34,7 +34,7 @@ use Rattle.gu_command.specs.declared.naming.NamedBook.{NamedBook}
 use Rattle.gu_command.specs.declared.options.KeepOptions.{KeepOptions}
 use Rattle.gu_command.specs.declared.line.Line.{Line}
 use Rattle.gu_command.specs.declared.line.Line.TheVariants.{Batch, Trace, Serve, Keep, Verify, Backup}
-use Rattle.gu_command.specs.declared.line.Line.TheVariants.{Extend, Roll}
+use Rattle.gu_command.specs.declared.line.Line.TheVariants.{Extend, Roll, Statement}
 
 -- the program is simple, so its lines are computed
 pub program_simple : is_simple program ≡ true
@@ -78,6 +78,10 @@ extend_line path file larger copy = codes "extend" ∷ path ∷ file ∷ larger 
 -- the line `roll HOUSE JOURNAL NEWHOUSE TO`
 abbrev pub roll_line : Text → Text → Text → Text → List Text
 roll_line path file larger copy = codes "roll" ∷ path ∷ file ∷ larger ∷ copy ∷ []
+
+-- the line `statement HOUSE`
+abbrev pub statement_line : Text → List Text
+statement_line path = codes "statement" ∷ path ∷ []
 
 -- ---- the commands
 
@@ -588,6 +592,38 @@ roll_taken path file larger copy h f l k =
       copy_is.0,
     ) refl
 
+-- ---- statement
+
+abbrev statement_ids : List Text
+statement_ids = codes "HOUSE" ∷ codes "FIRM" ∷ codes "JOURNAL" ∷ []
+
+statement_given : (path : Text) → is_plain path ≡ true
+    → given_for statement_ids (subcommand_of program (statement_line path))
+    ≡ Some (codes "statement", Some path ∷ None ∷ None ∷ [])
+unfolding clap_on_literals
+statement_given path h =
+    let path_is = read_plain path h in rw (path_is.0, path_is.1, path_is.0) refl
+
+pub statement_met : (path : Text) → is_plain path ≡ true
+    → (command_in (statement_line path) ≡ Some (codes "statement")) × (house_in (statement_line path) ≡ Some path)
+    × (firm_in (statement_line path) ≡ None) × (journal_in (statement_line path) ≡ None)
+statement_met path h =
+    let e = statement_given path h in
+    let journals = codes "JOURNAL" ∷ [] in
+    let firms = codes "FIRM" ∷ journals in
+    let firm = rest_given (codes "HOUSE") firms _ _ _ _ e in
+    let journal = rest_given (codes "FIRM") journals _ _ _ _ firm in (
+      command_given statement_ids _ _ _ e,
+      first_given (codes "HOUSE") firms _ _ _ _ e,
+      first_given (codes "FIRM") journals _ _ _ _ firm,
+      first_given (codes "JOURNAL") [] _ _ _ _ journal,
+    )
+
+pub statement_taken : (path : Text) → is_plain path ≡ true → takes program (statement_line path) ≡ true
+unfolding clap_on_literals
+statement_taken path h =
+    let path_is = read_plain path h in rw (path_is.0, path_is.1, path_is.0) refl
+
 -- ---- what is found behind the command
 
 given_among : (id : Text) (met : Option (Text × List Row)) (rows : List Row) → Some rows ≡ option_map (λ p. p.1) met
@@ -749,6 +785,12 @@ line_found words command given told (Roll path rolling) c g t k = (
   ap flag_meant (sym (g (codes "OPEN"))) ∙ k.5,
   sym (g (codes "FILE")) ∙ k.6,
 )
+line_found words command given told (Statement stating) c g t k = (
+  c ∙ ap Some k.0,
+  sym (g (codes "HOUSE")) ∙ k.1,
+  sym (g (codes "FIRM")) ∙ k.2,
+  sym (g (codes "JOURNAL")) ∙ k.3,
+)
 
 -- ---- what a line asks for
 
@@ -856,6 +898,30 @@ roll_no_backup e = firsts_apart _ _ (λ (bad : 114 ≡ 98). omega (arith, bad)) 
 roll_no_extend : codes "roll" ≡ codes "extend" → ⊥
 roll_no_extend e = firsts_apart _ _ (λ (bad : 114 ≡ 101). omega (arith, bad)) e
 
+statement_no_batch : codes "statement" ≡ codes "batch" → ⊥
+statement_no_batch e = firsts_apart _ _ (λ (bad : 115 ≡ 98). omega (arith, bad)) e
+
+statement_no_trace : codes "statement" ≡ codes "trace" → ⊥
+statement_no_trace e = firsts_apart _ _ (λ (bad : 115 ≡ 116). omega (arith, bad)) e
+
+statement_no_serve : codes "statement" ≡ codes "serve" → ⊥
+statement_no_serve e = let bad : 116 ≡ 101 = ap (λ (t : Text). slice_index t 1) e in omega (arith, bad)
+
+statement_no_keep : codes "statement" ≡ codes "keep" → ⊥
+statement_no_keep e = firsts_apart _ _ (λ (bad : 115 ≡ 107). omega (arith, bad)) e
+
+statement_no_verify : codes "statement" ≡ codes "verify" → ⊥
+statement_no_verify e = firsts_apart _ _ (λ (bad : 115 ≡ 118). omega (arith, bad)) e
+
+statement_no_backup : codes "statement" ≡ codes "backup" → ⊥
+statement_no_backup e = firsts_apart _ _ (λ (bad : 115 ≡ 98). omega (arith, bad)) e
+
+statement_no_extend : codes "statement" ≡ codes "extend" → ⊥
+statement_no_extend e = firsts_apart _ _ (λ (bad : 115 ≡ 101). omega (arith, bad)) e
+
+statement_no_roll : codes "statement" ≡ codes "roll" → ⊥
+statement_no_roll e = firsts_apart _ _ (λ (bad : 115 ≡ 114). omega (arith, bad)) e
+
 serve_no_trace : codes "serve" ≡ codes "trace" → ⊥
 serve_no_trace e = let bad : 115 ≡ 116 = ap (λ (t : Text). slice_index t 0) e in omega (arith, bad)
 
@@ -871,6 +937,7 @@ asks_batch command path given told (Verify file look) c h k = absurd (verify_no_
 asks_batch command path given told (Backup journal to) c h k = absurd (backup_no_batch (sym k.0 ∙ c))
 asks_batch command path given told (Extend file paths) c h k = absurd (extend_no_batch (sym k.0 ∙ c))
 asks_batch command path given told (Roll file rolling) c h k = absurd (roll_no_batch (sym k.0 ∙ c))
+asks_batch command path given told (Statement stating) c h k = absurd (statement_no_batch (sym k.0 ∙ c))
 
 pub asks_trace : (command path : Text) (given : Text → Option Text) (told : List Text) (trade : Option ℕ) (l : Line)
     → command ≡ codes "trace" → given (codes "HOUSE") ≡ Some path → trade_meant (given (codes "N")) ≡ Some trade
@@ -887,6 +954,8 @@ asks_trace command path given told trade (Verify file look) c h t k =
 asks_trace command path given told trade (Backup journal to) c h t k = absurd (backup_no_trace (sym k.0 ∙ c))
 asks_trace command path given told trade (Extend file paths) c h t k = absurd (extend_no_trace (sym k.0 ∙ c))
 asks_trace command path given told trade (Roll file rolling) c h t k = absurd (roll_no_trace (sym k.0 ∙ c))
+asks_trace command path given told trade (Statement stating) c h t k =
+    absurd (statement_no_trace (sym k.0 ∙ c))
 
 pub asks_serve : (command path : Text) (given : Text → Option Text) (told : List Text) (port : ℕ) (l : Line)
     → command ≡ codes "serve"
@@ -907,6 +976,8 @@ asks_serve command path given told port (Verify file look) c h p w n k =
 asks_serve command path given told port (Backup journal to) c h p w n k = absurd (backup_no_serve (sym k.0 ∙ c))
 asks_serve command path given told port (Extend file paths) c h p w n k = absurd (extend_no_serve (sym k.0 ∙ c))
 asks_serve command path given told port (Roll file rolling) c h p w n k = absurd (roll_no_serve (sym k.0 ∙ c))
+asks_serve command path given told port (Statement stating) c h p w n k =
+    absurd (statement_no_serve (sym k.0 ∙ c))
 
 -- no word was given where none is found
 none_found : {A : Type 0} (f : A → Text) (r : Option A) → option_map f r ≡ None → r ≡ None
@@ -995,6 +1066,8 @@ asks_keep command path file given told port (Extend house paths) c h j p w n t r
     absurd (extend_no_keep (sym k.0 ∙ c))
 asks_keep command path file given told port (Roll house rolling) c h j p w n t r k =
     absurd (roll_no_keep (sym k.0 ∙ c))
+asks_keep command path file given told port (Statement stating) c h j p w n t r k =
+    absurd (statement_no_keep (sym k.0 ∙ c))
 
 pub asks_verify : (command path file : Text) (given : Text → Option Text) (told : List Text) (l : Line)
     → command ≡ codes "verify" → given (codes "HOUSE") ≡ Some path → given (codes "JOURNAL") ≡ Some file
@@ -1015,6 +1088,8 @@ asks_verify command path file given told (Keep house journal at workers connecti
 asks_verify command path file given told (Backup journal to) c h j t n k = absurd (verify_no_backup (sym c ∙ k.0))
 asks_verify command path file given told (Extend house paths) c h j t n k = absurd (extend_no_verify (sym k.0 ∙ c))
 asks_verify command path file given told (Roll house rolling) c h j t n k = absurd (roll_no_verify (sym k.0 ∙ c))
+asks_verify command path file given told (Statement stating) c h j t n k =
+    absurd (statement_no_verify (sym k.0 ∙ c))
 
 pub asks_backup : (command file copy : Text) (given : Text → Option Text) (told : List Text) (l : Line)
     → command ≡ codes "backup" → given (codes "JOURNAL") ≡ Some file → given (codes "TO") ≡ Some copy
@@ -1032,6 +1107,8 @@ asks_backup command file copy given told (Verify house look) c j t k =
 asks_backup command file copy given told (Extend house paths) c j t k =
     absurd (extend_no_backup (sym k.0 ∙ c))
 asks_backup command file copy given told (Roll house rolling) c j t k = absurd (roll_no_backup (sym k.0 ∙ c))
+asks_backup command file copy given told (Statement stating) c j t k =
+    absurd (statement_no_backup (sym k.0 ∙ c))
 
 pub asks_extend : (command path file larger copy : Text) (given : Text → Option Text) (told : List Text) (l : Line)
     → command ≡ codes "extend" → given (codes "HOUSE") ≡ Some path → given (codes "JOURNAL") ≡ Some file
@@ -1057,6 +1134,8 @@ asks_extend command path file larger copy given told (Backup journal to) c h j n
     absurd (extend_no_backup (sym c ∙ k.0))
 asks_extend command path file larger copy given told (Roll house rolling) c h j n t k =
     absurd (roll_no_extend (sym k.0 ∙ c))
+asks_extend command path file larger copy given told (Statement stating) c h j n t k =
+    absurd (statement_no_extend (sym k.0 ∙ c))
 
 pub asks_roll : (command path file larger copy : Text) (given : Text → Option Text) (told : List Text) (l : Line)
     → command ≡ codes "roll" → given (codes "HOUSE") ≡ Some path → given (codes "JOURNAL") ≡ Some file
@@ -1085,6 +1164,27 @@ asks_roll command path file larger copy given told (Backup journal to) c h j n t
     absurd (roll_no_backup (sym c ∙ k.0))
 asks_roll command path file larger copy given told (Extend house paths) c h j n t o m k =
     absurd (roll_no_extend (sym c ∙ k.0))
+asks_roll command path file larger copy given told (Statement stating) c h j n t o m k =
+    absurd (statement_no_roll (sym k.0 ∙ c))
+
+pub asks_statement : (command path : Text) (given : Text → Option Text) (told : List Text) (l : Line)
+    → command ≡ codes "statement" → given (codes "HOUSE") ≡ Some path → given (codes "FIRM") ≡ None
+    → given (codes "JOURNAL") ≡ None → IsLineOf command given told l → AsksForStatement path l
+asks_statement command path given told (Statement stating) c h f j k = (
+  same_in_some _ _ (sym k.1 ∙ h),
+  none_found _ stating.firm (sym k.2 ∙ f),
+  none_found _ stating.journal (sym k.3 ∙ j),
+)
+asks_statement command path given told (Batch house) c h f j k = absurd (statement_no_batch (sym c ∙ k.0))
+asks_statement command path given told (Trace house number) c h f j k = absurd (statement_no_trace (sym c ∙ k.0))
+asks_statement command path given told (Serve house at workers connections) c h f j k =
+    absurd (statement_no_serve (sym c ∙ k.0))
+asks_statement command path given told (Keep house journal at workers connections options) c h f j k =
+    absurd (statement_no_keep (sym c ∙ k.0))
+asks_statement command path given told (Verify house look) c h f j k = absurd (statement_no_verify (sym c ∙ k.0))
+asks_statement command path given told (Backup journal to) c h f j k = absurd (statement_no_backup (sym c ∙ k.0))
+asks_statement command path given told (Extend house paths) c h f j k = absurd (statement_no_extend (sym c ∙ k.0))
+asks_statement command path given told (Roll house rolling) c h f j k = absurd (statement_no_roll (sym c ∙ k.0))
 
 -- ---- what comes of it
 
@@ -1275,6 +1375,22 @@ roll_read r words name path file larger copy given told e plain plain_file plain
     map_is h) read)
     (fails name_is (ap is_some house_is) (ap is_some journal_is) (ap is_some larger_is) (ap is_some copy_is))
 
+pub statement_read : (r : Reading) (words : List Text) (name path : Text) (given : Text → Option Text)
+    (told : List Text)
+    → words ≡ statement_line path → is_plain path ≡ true → command_in words ≡ Some name
+    → ((id : Text) → given id ≡ word_for words id) → IfOk r (IsLineOf name given told)
+    → (name ≡ codes "statement" → is_some (given (codes "HOUSE")) ≡ true → IfErr r (λ e. e ≡ no_memory))
+    → MatchResult r (AsksForStatement path) (λ e. e ≡ no_memory)
+statement_read r words name path given told e plain named_so given_so read fails =
+    let met = statement_met path plain in
+    let name_is : name ≡ codes "statement" = same_in_some _ _ (sym named_so ∙ ap command_in e ∙ met.0) in
+    let house_is : given (codes "HOUSE") ≡ Some path = given_so (codes "HOUSE") ∙ ap house_in e ∙ met.1 in
+    let firm_is : given (codes "FIRM") ≡ None = given_so (codes "FIRM") ∙ ap firm_in e ∙ met.2 in
+    let journal_is : given (codes "JOURNAL") ≡ None = given_so (codes "JOURNAL") ∙ ap journal_in e ∙ met.3 in
+    by_both r _ _
+    (IfOk-weaker r _ _ (λ l h. asks_statement name path given told l name_is house_is firm_is journal_is h) read)
+    (fails name_is (ap is_some house_is))
+
 -- a line that the parser finds in the words is told, unless memory runs out
 pub line_read : (r : Reading) (words : List Text) (name : Text) (given : Text → Option Text) (told : List Text)
     (l : Line) → IsLine words l → command_in words ≡ Some name → ((id : Text) → given id ≡ word_for words id)
@@ -1296,22 +1412,23 @@ pub line_read : (r : Reading) (words : List Text) (name : Text) (given : Text �
     → is_some (given (codes "NEWHOUSE")) ≡ true → is_some (given (codes "TO")) ≡ true → IfErr r (λ e. e ≡ no_memory))
     → (name ≡ codes "roll" → is_some (given (codes "HOUSE")) ≡ true → is_some (given (codes "JOURNAL")) ≡ true
     → is_some (given (codes "NEWHOUSE")) ≡ true → is_some (given (codes "TO")) ≡ true → IfErr r (λ e. e ≡ no_memory))
+    → (name ≡ codes "statement" → is_some (given (codes "HOUSE")) ≡ true → IfErr r (λ e. e ≡ no_memory))
     → IfErr r (λ e. e ≡ no_memory)
 line_read r words name given told (Batch path) found named_so given_so told_so
-    batch trace serve keep verify backup extend roll =
+    batch trace serve keep verify backup extend roll statement =
     batch (same_in_some _ _ (sym named_so ∙ found.0)) (ap is_some (given_so (codes "HOUSE") ∙ found.1))
 line_read r words name given told (Trace path number) found named_so given_so told_so
-    batch trace serve keep verify backup extend roll =
+    batch trace serve keep verify backup extend roll statement =
     trace (same_in_some _ _ (sym named_so ∙ found.0)) (ap is_some (given_so (codes "HOUSE") ∙ found.1))
     (ap is_some (ap trade_meant (given_so (codes "N")) ∙ found.2))
 line_read r words name given told (Serve path port workers connections) found named_so given_so told_so
-    batch trace serve keep verify backup extend roll =
+    batch trace serve keep verify backup extend roll statement =
     serve (same_in_some _ _ (sym named_so ∙ found.0)) (ap is_some (given_so (codes "HOUSE") ∙ found.1))
     (ap is_some (ap port_meant (given_so (codes "PORT")) ∙ found.2))
     (ap is_some (ap workers_meant (given_so (codes "WORKERS")) ∙ found.3))
     (ap is_some (ap connections_meant (given_so (codes "COUNT")) ∙ found.4))
 line_read r words name given told (Keep path journal port workers connections options) found named_so given_so told_so
-    batch trace serve keep verify backup extend roll =
+    batch trace serve keep verify backup extend roll statement =
     meant_so given told options _
     (same_meaning given (word_for words) told (told_in words) options given_so told_so found.6)
     (keep (same_in_some _ _ (sym named_so ∙ found.0)) (ap is_some (given_so (codes "HOUSE") ∙ found.1))
@@ -1320,20 +1437,23 @@ line_read r words name given told (Keep path journal port workers connections op
     (ap is_some (ap workers_meant (given_so (codes "WORKERS")) ∙ found.4))
     (ap is_some (ap connections_meant (given_so (codes "COUNT")) ∙ found.5)))
 line_read r words name given told (Verify path look) found named_so given_so told_so
-    batch trace serve keep verify backup extend roll =
+    batch trace serve keep verify backup extend roll statement =
     verify (same_in_some _ _ (sym named_so ∙ found.0)) (ap is_some (given_so (codes "HOUSE") ∙ found.1))
     (ap is_some (given_so (codes "JOURNAL") ∙ found.2)) (ap is_some (ap trade_meant (given_so (codes "N")) ∙ found.4))
 line_read r words name given told (Backup journal to) found named_so given_so told_so
-    batch trace serve keep verify backup extend roll =
+    batch trace serve keep verify backup extend roll statement =
     backup (same_in_some _ _ (sym named_so ∙ found.0)) (ap is_some (given_so (codes "JOURNAL") ∙ found.1))
     (ap is_some (given_so (codes "TO") ∙ found.2))
 line_read r words name given told (Extend path paths) found named_so given_so told_so
-    batch trace serve keep verify backup extend roll =
+    batch trace serve keep verify backup extend roll statement =
     extend (same_in_some _ _ (sym named_so ∙ found.0)) (ap is_some (given_so (codes "HOUSE") ∙ found.1))
     (ap is_some (given_so (codes "JOURNAL") ∙ found.2)) (ap is_some (given_so (codes "NEWHOUSE") ∙ found.3))
     (ap is_some (given_so (codes "TO") ∙ found.4))
 line_read r words name given told (Roll path rolling) found named_so given_so told_so
-    batch trace serve keep verify backup extend roll =
+    batch trace serve keep verify backup extend roll statement =
     roll (same_in_some _ _ (sym named_so ∙ found.0)) (ap is_some (given_so (codes "HOUSE") ∙ found.1))
     (ap is_some (given_so (codes "JOURNAL") ∙ found.2)) (ap is_some (given_so (codes "NEWHOUSE") ∙ found.3))
     (ap is_some (given_so (codes "TO") ∙ found.4))
+line_read r words name given told (Statement stating) found named_so given_so told_so
+    batch trace serve keep verify backup extend roll statement =
+    statement (same_in_some _ _ (sym named_so ∙ found.0)) (ap is_some (given_so (codes "HOUSE") ∙ found.1))

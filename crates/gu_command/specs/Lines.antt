@@ -21,6 +21,7 @@ use Rattle.gu_batch.specs.declared.batch.RunError.TheVariants.{Memory}
 use Rattle.gu_command.specs.declared.line.Line.{Line}
 use Rattle.gu_command.specs.declared.line.Line.TheVariants.{Batch, Trace, Serve, Keep}
 use Rattle.gu_command.specs.declared.line.Line.TheVariants.{Verify, Backup, Extend, Roll}
+use Rattle.gu_command.specs.declared.line.Line.TheVariants.{Statement}
 
 -- the argument HOUSE
 abbrev pub house_rule : Rule
@@ -119,6 +120,20 @@ roll =
     (with_rule (with_rule (with_rule (with_rule (with_rule (new_app (codes "roll")) house_rule)
     journal_rule) larger_rule) copy_rule) open_rule) map_rule
 
+-- the argument `--firm FIRM`
+abbrev pub firm_rule : Rule
+firm_rule = record (new_rule (codes "FIRM")) { long = Some (codes "firm"); action = Some Set }
+
+-- the argument `--journal JOURNAL`
+abbrev pub source_rule : Rule
+source_rule =
+    record (new_rule (codes "JOURNAL")) { long = Some (codes "journal"); action = Some Set }
+
+-- the command `statement HOUSE [--firm FIRM] [--journal JOURNAL]`
+abbrev pub statement : App
+statement =
+    with_rule (with_rule (with_rule (new_app (codes "statement")) house_rule) firm_rule) source_rule
+
 -- the program, as the parser sees it: its words begin with a command, and there is no command for
 -- help
 abbrev pub top : App
@@ -130,11 +145,11 @@ top = record (new_app (codes "allocd")) {
   };
 }
 
--- the program with its eight commands
+-- the program with its nine commands
 abbrev pub program : App
 program = with_subcommand (with_subcommand (with_subcommand (with_subcommand (with_subcommand
-    (with_subcommand (with_subcommand (with_subcommand top batch.top) trace.top) serve.top)
-    keep.top) verify.top) backup.top) extend.top) roll.top
+    (with_subcommand (with_subcommand (with_subcommand (with_subcommand top batch.top) trace.top)
+    serve.top) keep.top) verify.top) backup.top) extend.top) roll.top) statement.top
 
 -- the command was made, or there was no memory for it
 abbrev pub Makes : App → Result Command Fault → Type 0
@@ -181,6 +196,10 @@ open_in words = word_for words (codes "OPEN")
 -- what it finds behind `--map`
 abbrev pub map_in : List Text → Option Text
 map_in words = word_for words (codes "FILE")
+
+-- what it finds behind `--firm`
+abbrev pub firm_in : List Text → Option Text
+firm_in words = word_for words (codes "FIRM")
 
 -- what it finds behind `--trade`
 abbrev pub trade_in : List Text → Option Text
@@ -270,6 +289,10 @@ IsLineOf command given told (Roll path rolling) =
     × (given (codes "TO") ≡ Some rolling.paths.to.bytes.items)
     × (flag_meant (given (codes "OPEN")) ≡ rolling.is_open)
     × (given (codes "FILE") ≡ option_map (λ m. m.bytes.items) rolling.map)
+IsLineOf command given told (Statement stating) =
+    (command ≡ codes "statement") × (given (codes "HOUSE") ≡ Some stating.house.bytes.items)
+    × (given (codes "FIRM") ≡ option_map (λ f. f.bytes.items) stating.firm)
+    × (given (codes "JOURNAL") ≡ option_map (λ j. j.bytes.items) stating.journal)
 
 -- it is what the parser finds in the words
 abbrev pub IsLine : List Text → Line → Type 0
@@ -310,6 +333,11 @@ IsLine words (Roll path rolling) =
     × (copy_in words ≡ Some rolling.paths.to.bytes.items)
     × (flag_meant (open_in words) ≡ rolling.is_open)
     × (map_in words ≡ option_map (λ m. m.bytes.items) rolling.map)
+IsLine words (Statement stating) =
+    (command_in words ≡ Some (codes "statement"))
+    × (house_in words ≡ Some stating.house.bytes.items)
+    × (firm_in words ≡ option_map (λ f. f.bytes.items) stating.firm)
+    × (journal_in words ≡ option_map (λ j. j.bytes.items) stating.journal)
 
 -- the words are one of the program's lines, with any of its options: the parser takes them, and
 -- this is the line that it finds
@@ -328,6 +356,7 @@ AsksForBatch path (Verify house look) = ⊥
 AsksForBatch path (Backup journal to) = ⊥
 AsksForBatch path (Extend house paths) = ⊥
 AsksForBatch path (Roll house rolling) = ⊥
+AsksForBatch path (Statement stating) = ⊥
 
 -- the line asks for the totals by the house file at the path, and for the trace of this trade, if
 -- one is named
@@ -340,6 +369,7 @@ AsksForTrace path asked (Verify house look) = ⊥
 AsksForTrace path asked (Backup journal to) = ⊥
 AsksForTrace path asked (Extend house paths) = ⊥
 AsksForTrace path asked (Roll house rolling) = ⊥
+AsksForTrace path asked (Statement stating) = ⊥
 
 -- the line asks to serve by the house file at the path: on this port, by so many workers, so many
 -- connections
@@ -353,6 +383,7 @@ AsksToServe path p w n (Verify house look) = ⊥
 AsksToServe path p w n (Backup journal to) = ⊥
 AsksToServe path p w n (Extend house paths) = ⊥
 AsksToServe path p w n (Roll house rolling) = ⊥
+AsksToServe path p w n (Statement stating) = ⊥
 
 -- the line asks to keep a book in the journal at a path, with no options, and to serve it
 abbrev pub AsksToKeep : Text → Text → ℕ → ℕ → ℕ → Line → Type 0
@@ -366,6 +397,7 @@ AsksToKeep path file p w n (Verify house look) = ⊥
 AsksToKeep path file p w n (Backup journal to) = ⊥
 AsksToKeep path file p w n (Extend house paths) = ⊥
 AsksToKeep path file p w n (Roll house rolling) = ⊥
+AsksToKeep path file p w n (Statement stating) = ⊥
 
 -- the line asks what a start would say of the journal at a path, and for nothing beside that
 abbrev pub AsksToVerify : Text → Text → Line → Type 0
@@ -379,6 +411,7 @@ AsksToVerify path file (Keep house journal port workers connections options) = �
 AsksToVerify path file (Backup journal to) = ⊥
 AsksToVerify path file (Extend house paths) = ⊥
 AsksToVerify path file (Roll house rolling) = ⊥
+AsksToVerify path file (Statement stating) = ⊥
 
 -- the line asks for a copy of the journal at a path, at another one
 abbrev pub AsksToBackUp : Text → Text → Line → Type 0
@@ -391,6 +424,7 @@ AsksToBackUp file copy (Keep house journal port workers connections options) = �
 AsksToBackUp file copy (Verify house look) = ⊥
 AsksToBackUp file copy (Extend house paths) = ⊥
 AsksToBackUp file copy (Roll house rolling) = ⊥
+AsksToBackUp file copy (Statement stating) = ⊥
 
 -- the line asks to write the journal at a path anew, by a house file that has more, at another path
 abbrev pub AsksToExtend : Text → Text → Text → Text → Line → Type 0
@@ -404,6 +438,7 @@ AsksToExtend path file larger copy (Keep house journal port workers connections 
 AsksToExtend path file larger copy (Verify house look) = ⊥
 AsksToExtend path file larger copy (Backup journal to) = ⊥
 AsksToExtend path file larger copy (Roll house rolling) = ⊥
+AsksToExtend path file larger copy (Statement stating) = ⊥
 
 -- the line asks for a new book of the live changes of the journal at a path, with no options
 abbrev pub AsksToRoll : Text → Text → Text → Text → Line → Type 0
@@ -418,6 +453,21 @@ AsksToRoll path file larger copy (Keep house journal port workers connections op
 AsksToRoll path file larger copy (Verify house look) = ⊥
 AsksToRoll path file larger copy (Backup journal to) = ⊥
 AsksToRoll path file larger copy (Extend house paths) = ⊥
+AsksToRoll path file larger copy (Statement stating) = ⊥
+
+-- the line asks for a statement of the whole book behind standard input, by the house file at the
+-- path
+abbrev pub AsksForStatement : Text → Line → Type 0
+AsksForStatement path (Statement stating) =
+    (stating.house.bytes.items ≡ path) × (stating.firm ≡ None) × (stating.journal ≡ None)
+AsksForStatement path (Batch house) = ⊥
+AsksForStatement path (Trace house trade) = ⊥
+AsksForStatement path (Serve house port workers connections) = ⊥
+AsksForStatement path (Keep house journal port workers connections options) = ⊥
+AsksForStatement path (Verify house look) = ⊥
+AsksForStatement path (Backup journal to) = ⊥
+AsksForStatement path (Extend house paths) = ⊥
+AsksForStatement path (Roll house rolling) = ⊥
 
 -- a line that asks to serve does so by as many workers as a desk may have
 abbrev pub HasWorkers : Line → Type 0

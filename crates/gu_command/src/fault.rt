@@ -24,6 +24,9 @@ pub enum Fault {
     /// A line of the house file is at fault: its number, and the cause.
     #[error("{0}")]
     HouseLine(HouseError),
+    /// The house file has no firm of this name.
+    #[error("no firm {0}")]
+    NoFirm(String),
     /// The server couldn't listen, or ended before all its connections did.
     #[error("{0}")]
     Service(ServiceError),

@@ -11,6 +11,7 @@ mod line;
 mod naming;
 mod options;
 mod order;
+mod statement;
 
 pub use copies::{Extension, Look, Rolling};
 pub use errors::{KeepError, RecordError, ServeError, ServiceError};
@@ -19,3 +20,4 @@ pub use line::{Line, MOST_WORKERS, command_line, unread_words};
 pub use naming::NamedBook;
 pub use options::{KeepOptions, StatusAt};
 pub use order::Order;
+pub use statement::Stating;

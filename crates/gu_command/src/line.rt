@@ -14,7 +14,7 @@ ghost use Rattle.gu_command.specs.Lines.{port_meant, workers_meant, connections_
 ghost use Rattle.gu_command.specs.Lines.{is_line_fault, IsLine, IsOneOfItsLines, IsLineOf};
 ghost use Rattle.gu_command.specs.Lines.{AsksForBatch, AsksForTrace, AsksToServe, AsksToKeep};
 ghost use Rattle.gu_command.specs.Lines.{AsksToVerify, AsksToBackUp, AsksToExtend, AsksToRoll};
-ghost use Rattle.gu_command.specs.Lines.{HasWorkers};
+ghost use Rattle.gu_command.specs.Lines.{AsksForStatement, HasWorkers};
 ghost use Rattle.gu_command.specs.Options.{option_rule, AreMeant};
 ghost use Rattle.gu_command.specs.Places.{told_among};
 ghost use Rattle.gu_desk.specs.Views.{is_worker_count};
@@ -28,6 +28,7 @@ use crate::copies::{
 };
 use crate::fault::Fault;
 use crate::options::{KeepOptions, options_of, with_options};
+use crate::statement::{Stating, statement_command, statement_line};
 use clap::error::ErrorKind;
 use clap::{Arg, ArgAction, ArgMatches, Command, Error};
 use gu_base::Number;
@@ -89,6 +90,9 @@ pub enum Line {
         house: String,
         rolling: Rolling,
     },
+    /// `statement HOUSE [--firm FIRM] [--journal JOURNAL]`: write what the book behind standard
+    /// input, or that of a journal, holds, or what a firm may see of it.
+    Statement(Stating),
 }
 
 /// The program's commands, and the names by which `ArgMatches` gives their words.
@@ -107,6 +111,8 @@ pub(crate) const BACKUP: &str = "backup";
 pub(crate) const EXTEND: &str = "extend";
 
 pub(crate) const ROLL: &str = "roll";
+
+pub(crate) const STATEMENT: &str = "statement";
 
 const HOUSE: &str = "HOUSE";
 
@@ -397,7 +403,8 @@ fn program_command<'a>(alloc: Global) -> Result<Command<'a>, Fault>
     let command = with_command(command, verify_command(alloc));
     let command = with_command(command, backup_command(alloc));
     let command = with_command(command, extend_command(alloc));
-    with_command(command, roll_command(alloc))
+    let command = with_command(command, roll_command(alloc));
+    with_command(command, statement_command(alloc))
 }
 
 /// What the parser says to a command line, without its last line end. Where it found no memory it
@@ -642,6 +649,9 @@ fn line_of(alloc: Global, name: &str, given: &ArgMatches<'_>) -> Result<Line, Fa
         → is_some (first_value (found_of given.now) (codes "NEWHOUSE")) ≡ true
         → is_some (first_value (found_of given.now) (codes "TO")) ≡ true
         → IfErr result (λ e. e ≡ no_memory) }
+    ensures statement { name.now ≡ codes "statement"
+        → is_some (first_value (found_of given.now) (codes "HOUSE")) ≡ true
+        → IfErr result (λ e. e ≡ no_memory) }
     ensures fault { IfErr result (λ e. IsTrue (is_line_fault e)) }
 {
     if name == BACKUP {
@@ -669,6 +679,9 @@ fn line_of(alloc: Global, name: &str, given: &ArgMatches<'_>) -> Result<Line, Fa
     }
     if name == ROLL {
         return roll_line(alloc, house, given);
+    }
+    if name == STATEMENT {
+        return statement_line(alloc, house, given);
     }
     Err(Fault::Usage(String::new(alloc)))
 }
@@ -719,6 +732,9 @@ pub fn command_line(alloc: Global, words: &[String]) -> Result<Line, Fault>
         → is_plain path ≡ true → is_plain file ≡ true → is_plain larger ≡ true
         → is_plain copy ≡ true
         → MatchResult result (AsksToRoll path file larger copy) (λ e. e ≡ no_memory) }
+    ensures statement { (path : List ℕ)
+        → map (λ w. w.bytes.items) words.now ≡ codes "statement" ∷ path ∷ []
+        → is_plain path ≡ true → MatchResult result (AsksForStatement path) (λ e. e ≡ no_memory) }
     ensures taken { IsOneOfItsLines (map (λ w. w.bytes.items) words.now)
         → IfErr result (λ e. e ≡ no_memory) }
     ensures fault { IfErr result (λ e. IsTrue (is_line_fault e)) }

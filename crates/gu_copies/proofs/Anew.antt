@@ -8,7 +8,7 @@ use Rattle.gu_batch.specs.Counts.{Fails}
 use Rattle.gu_batch.specs.declared.batch.RunError.TheVariants.{Write}
 use Rattle.gu_command.specs.Faults.{is_keep_fault}
 use Rattle.gu_command.specs.declared.fault.Fault.{Fault}
-use Rattle.gu_command.specs.declared.fault.Fault.TheVariants.{Usage, HouseFile, HouseLine, Service, Journal, Keep, Run}
+use Rattle.gu_command.specs.declared.fault.Fault.TheVariants.{Usage, HouseFile, HouseLine, NoFirm, Service, Journal, Keep, Run}
 use Rattle.gu_copies.specs.Extended.{IsExtension, IsWrittenAnew}
 use Rattle.gu_copies.specs.Rolled.{IsNewBook, HasRolled, Rolls, rolled_line}
 use Rattle.gu_roll.specs.declared.keep.Keep.{Keep as Kept}
@@ -60,6 +60,7 @@ module _ (t u : House) (pin new_pin : List ℕ) (known : Option (List ℕ)) (kee
     not_begun told failed (Keep error) is = (refl, refl, is)
     not_begun told failed (Usage text) is = (refl, refl, is)
     not_begun told failed HouseFile is = (refl, refl, is)
+    not_begun told failed (NoFirm text) is = (refl, refl, is)
     not_begun told failed (HouseLine error) is = (refl, refl, is)
     not_begun told failed (Service error) is = (refl, refl, is)
     not_begun told failed (Run error) is = absurd (false≢true is)

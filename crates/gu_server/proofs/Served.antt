@@ -70,6 +70,7 @@ served_by words bytes_at journal_at is_copied l x f b c v w (Err (fault.Keep e))
 served_by words bytes_at journal_at is_copied l x f b c v w (Err (fault.Usage t)) by h = absurd h
 served_by words bytes_at journal_at is_copied l x f b c v w (Err fault.HouseFile) by h = absurd h
 served_by words bytes_at journal_at is_copied l x f b c v w (Err (fault.HouseLine e)) by h = absurd h
+served_by words bytes_at journal_at is_copied l x f b c v w (Err (fault.NoFirm t)) by h = absurd h
 
 -- the words ask to keep a book, and firms were served by the house table that they name
 pub kept_by : (words : List Text) (bytes_at journal_at : Text → Option (List ℕ))
@@ -103,6 +104,7 @@ kept_by words bytes_at journal_at is_copied l x f b c v w (Err (fault.Run e)) by
 kept_by words bytes_at journal_at is_copied l x f b c v w (Err (fault.Usage t)) by h = absurd h
 kept_by words bytes_at journal_at is_copied l x f b c v w (Err fault.HouseFile) by h = absurd h
 kept_by words bytes_at journal_at is_copied l x f b c v w (Err (fault.HouseLine e)) by h = absurd h
+kept_by words bytes_at journal_at is_copied l x f b c v w (Err (fault.NoFirm t)) by h = absurd h
 kept_by words bytes_at journal_at is_copied l x f b c v w (Err (fault.Service e)) by h = absurd h
 
 -- something is wrong with the journal of the words, and nothing was read or written
@@ -114,6 +116,7 @@ refused_by words bytes_at journal_at is_copied old new (fault.Keep e) asks is sa
 refused_by words bytes_at journal_at is_copied old new (fault.Usage t) asks is same = absurd (false≢true is)
 refused_by words bytes_at journal_at is_copied old new fault.HouseFile asks is same = absurd (false≢true is)
 refused_by words bytes_at journal_at is_copied old new (fault.HouseLine e) asks is same = absurd (false≢true is)
+refused_by words bytes_at journal_at is_copied old new (fault.NoFirm t) asks is same = absurd (false≢true is)
 refused_by words bytes_at journal_at is_copied old new (fault.Service e) asks is same = absurd (false≢true is)
 refused_by words bytes_at journal_at is_copied old new (fault.Run e) asks is same = absurd (false≢true is)
 
@@ -265,19 +268,24 @@ module _ (words : List Text) (bytes_at journal_at : Text → Option (List ℕ)) 
       → c ≡ b → w ≡ v
       → Does {A = Unit {0}} words bytes_at journal_at is_copied (tells l x f b v) (tells l x f c w) (Err e)
   not_begun l x f b c v w e wrong same never =
-      refused_by words bytes_at journal_at is_copied _ _ e (inr (inr (inr (inr asks_to_roll)))) wrong
+      refused_by words bytes_at journal_at is_copied _ _ e (inr (inr (inr (inr (inl asks_to_roll))))) wrong
       (untouched same never)
 
   pub begun_by : (l : Option (List ℕ)) (x f : ℕ) (b c : Option (List ℕ)) (v w : ℕ) (r : Result (Unit {0}) Fault)
       → Rolls t u pin new_pin (journal_at journal) (keep_meant is_open) (is_copied to) b c v w r
       → Does words bytes_at journal_at is_copied (tells l x f b v) (tells l x f c w) r
   begun_by l x f b c v w (Ok done) rolls =
-      inr (inr (inr (inr (inr (inr (inr (has_begun l x f b c v w (Ok done) rolls)))))))
+      inr (inr (inr (inr (inr (inr (inr (inl (has_begun l x f b c v w (Ok done) rolls))))))))
   begun_by l x f b c v w (Err (fault.Run e)) rolls =
-      inr (e, refl, inr (inr (inr (inr (inr (inr (inr (has_begun l x f b c v w (Err e) rolls))))))))
+      inr (
+        e,
+        refl,
+        inr (inr (inr (inr (inr (inr (inr (inl (has_begun l x f b c v w (Err e) rolls)))))))),
+      )
   begun_by l x f b c v w (Err (fault.Journal t)) rolls = not_begun l x f b c v w _ rolls.2 rolls.0 rolls.1
   begun_by l x f b c v w (Err (fault.Keep e)) rolls = not_begun l x f b c v w _ rolls.2 rolls.0 rolls.1
   begun_by l x f b c v w (Err (fault.Usage t)) rolls = absurd (false≢true rolls.2)
+  begun_by l x f b c v w (Err (fault.NoFirm t)) rolls = absurd (false≢true rolls.2)
   begun_by l x f b c v w (Err fault.HouseFile) rolls = absurd (false≢true rolls.2)
   begun_by l x f b c v w (Err (fault.HouseLine e)) rolls = absurd (false≢true rolls.2)
   begun_by l x f b c v w (Err (fault.Service e)) rolls = absurd (false≢true rolls.2)
@@ -296,6 +304,7 @@ stopped words bytes_at journal_at is_copied path told (fault.Run run.Read) asked
 stopped words bytes_at journal_at is_copied path told (fault.Run run.Write) asked is = absurd is
 stopped words bytes_at journal_at is_copied path told (fault.Run (run.NoLiveTrade trade)) asked is = absurd is
 stopped words bytes_at journal_at is_copied path told (fault.Usage t) asked is = absurd is
+stopped words bytes_at journal_at is_copied path told (fault.NoFirm t) asked is = absurd is
 stopped words bytes_at journal_at is_copied path told (fault.Service e) asked is = absurd is
 stopped words bytes_at journal_at is_copied path told (fault.Journal t) asked is = absurd is
 stopped words bytes_at journal_at is_copied path told (fault.Keep e) asked is = absurd is

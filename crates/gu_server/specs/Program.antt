@@ -1,6 +1,7 @@
 -- What the program does: which house file it reads, what it does to its reader and its writer, and
 -- in which order faults are found.
-use Rattle.std.specs.Prelude.{◌≡◌, ℕ, ◌⊎◌, codes, List, Option, Some, Result, Ok, Err}
+use Rattle.std.specs.Prelude.{◌≡◌, ℕ, ◌⊎◌, false, codes, List, Option, Some, Result, Ok, Err}
+use Rattle.std.specs.Prelude.{IsTrue, is_some, option_map}
 use Rattle.clap.specs.Words.{Text}
 use Rattle.gu_base.specs.House.{House}
 use Rattle.gu_batch.specs.Runs.{Told, Runs}
@@ -12,8 +13,9 @@ use Rattle.gu_parties.specs.Parsing.{Answers}
 use Rattle.gu_parties.specs.declared.fault.HouseError.{HouseError}
 use Rattle.gu_connection.specs.Serving.{IsServed}
 use Rattle.gu_server.specs.HouseText.{IsTextOf, IsTooLong}
+use Rattle.gu_server.specs.Stated.{is_known, AreKnown, States}
 use Rattle.gu_command.specs.Lines.{command_in, house_in, journal_in, trade_in, trade_meant}
-use Rattle.gu_command.specs.Lines.{totals_in, copy_in, larger_in, open_in}
+use Rattle.gu_command.specs.Lines.{totals_in, copy_in, larger_in, open_in, firm_in}
 use Rattle.gu_command.specs.Flags.{flag_meant}
 use Rattle.gu_copies.specs.Verified.{Says, Copies}
 use Rattle.gu_copies.specs.Extended.{IsWrittenAnew}
@@ -21,7 +23,7 @@ use Rattle.gu_copies.specs.Rolled.{Begins, keep_meant}
 use Rattle.sha2.specs.Sha256.{sha256}
 use Rattle.gu_command.specs.declared.fault.Fault.{Fault}
 use Rattle.gu_command.specs.declared.fault.Fault.TheVariants.{Usage, HouseFile, HouseLine, Service}
-use Rattle.gu_command.specs.declared.fault.Fault.TheVariants.{Journal, Keep, Run}
+use Rattle.gu_command.specs.declared.fault.Fault.TheVariants.{NoFirm, Journal, Keep, Run}
 
 -- the text of the file with these bytes names this house table, or has this fault
 abbrev pub Names : Option (List ℕ) → Result House HouseError → Type 0
@@ -51,19 +53,32 @@ pub record Asks (command : Text) (words : List Text) (bytes_at : Text → Option
   pub house : House
   pub named : Names (bytes_at path) (Ok house)
 
+-- they ask for the statement of a journal's book
+abbrev pub AsksForItsStatement : List Text → (Text → Option (List ℕ)) → Type 0
+AsksForItsStatement words bytes_at =
+    Asks (codes "statement") words bytes_at × IsTrue (is_some (journal_in words))
+
 -- the words are those of a command that has a journal
 abbrev pub AsksOfJournal : List Text → (Text → Option (List ℕ)) → Type 0
 AsksOfJournal words bytes_at =
     Asks (codes "keep") words bytes_at ⊎ Asks (codes "verify") words bytes_at
     ⊎ (command_in words ≡ Some (codes "backup")) ⊎ Asks (codes "extend") words bytes_at
-    ⊎ Asks (codes "roll") words bytes_at
+    ⊎ Asks (codes "roll") words bytes_at ⊎ AsksForItsStatement words bytes_at
 
--- why nothing was read and nothing written: the command line, the house file that it names, or the
--- server
+-- the words ask for the statement of a firm that the house table lacks
+pub record AsksForNoFirm (words : List Text) (bytes_at : Text → Option (List ℕ)) (firm : Text)
+    : Type 0 where
+  pub asks : Asks (codes "statement") words bytes_at
+  pub named : firm_in words ≡ Some firm
+  pub unknown : is_known asks.house firm ≡ false
+
+-- why nothing was read and nothing written: the command line, the house file that it names, a firm
+-- that this lacks, a journal, or the server
 abbrev pub Stops : List Text → (Text → Option (List ℕ)) → Fault → Type 0
 Stops words bytes_at (Usage text) = Unit {0}
 Stops words bytes_at (Run Memory) = Unit {0}
 Stops words bytes_at (Service error) = Asks (codes "serve") words bytes_at
+Stops words bytes_at (NoFirm text) = AsksForNoFirm words bytes_at text.bytes.items
 Stops words bytes_at (Journal text) = AsksOfJournal words bytes_at
 Stops words bytes_at (Keep error) = AsksOfJournal words bytes_at
 Stops words bytes_at e =
@@ -198,6 +213,21 @@ pub record HasBegun {A : Type 0} (words : List Text) (bytes_at journal_at : Text
       (keep_meant (flag_meant (open_in words))) (is_copied to) old.contents new.contents
       old.writes_failed new.writes_failed result
 
+-- ---- statements
+
+-- a statement was written, by the house table that the house file of the words names, of the book
+-- behind what was read or of that of the journal that they name, and for the firm that they name
+pub record HasStated {A : Type 0} (words : List Text)
+    (bytes_at journal_at : Text → Option (List ℕ)) (old new : Told) (result : Result A RunError)
+    : Type 0 where
+  pub asks : Asks (codes "statement") words bytes_at
+  pub firm : Option Text
+  pub whose : firm_in words ≡ firm
+  pub known : AreKnown asks.house firm
+  pub journal : Option Text
+  pub named : journal_in words ≡ journal
+  pub states : States asks.house (sha256 asks.named.0) (option_map journal_at journal) old new
+
 -- ---- the program
 
 -- what the words ask for was done
@@ -211,10 +241,11 @@ HasDone words bytes_at journal_at is_copied old new result =
     ⊎ HasCopied words journal_at is_copied old new result
     ⊎ HasExtended words bytes_at journal_at is_copied old new result
     ⊎ HasBegun words bytes_at journal_at is_copied old new result
+    ⊎ HasStated words bytes_at journal_at old new result
 
 -- a batch, a trace or a server was run to its end, a journal looked at, copied, extended or rolled,
--- or nothing was touched, or the run ended with an error. House files have these bytes, journals
--- those, and this holds of copies, of what is extended and of new books.
+-- a statement written, or nothing was touched, or the run ended with an error. House files have
+-- these bytes, journals those, and this holds of copies, of what is extended and of new books.
 abbrev pub Does : {A : Type 0} → List Text → (Text → Option (List ℕ)) → (Text → Option (List ℕ))
     → (Text → List ℕ → Type 0) → Told → Told → Result A Fault → Type 0
 Does {A} words bytes_at journal_at is_copied old new (Ok x) =

@@ -1,7 +1,7 @@
 //! What `command_line` takes the words of a line for.
 
 use crate::lines::{say, tell_fault, words_of};
-use gu_command::{Extension, Look, Rolling, StatusAt};
+use gu_command::{Extension, Look, Rolling, Stating, StatusAt};
 use gu_server::{KeepOptions, Line, command_line};
 use std::alloc::Global;
 
@@ -106,6 +106,13 @@ fn tell_rolling(rt: &HostRuntime, house: &str, rolling: &Rolling) {
     tell_path(rt, b", map ", &rolling.map);
 }
 
+/// Writes whose statement is asked for, and of which journal.
+fn tell_stating(rt: &HostRuntime, stating: &Stating) {
+    tell_words(rt, b"statement", &[stating.house.as_str()]);
+    tell_path(rt, b", firm ", &stating.firm);
+    tell_path(rt, b", journal ", &stating.journal);
+}
+
 /// Writes what a line asks for.
 fn tell_line(rt: &HostRuntime, alloc: Global, line: &Line) {
     match line {
@@ -141,6 +148,7 @@ fn tell_line(rt: &HostRuntime, alloc: Global, line: &Line) {
         }
         Line::Extend { house, paths } => tell_extension(rt, house.as_str(), paths),
         Line::Roll { house, rolling } => tell_rolling(rt, house.as_str(), rolling),
+        Line::Statement(stating) => tell_stating(rt, stating),
     }
     say(rt, b"\n");
 }

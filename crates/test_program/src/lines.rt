@@ -142,12 +142,15 @@ fn is_as_expected(rt: &HostRuntime, alloc: Global, stream: &str, out: &[u8]) -> 
     }
 }
 
-/// Writes the text of a trace or of a look at a journal as it is, and of answers whether they are
-/// those of the stream.
+/// The commands whose text is written as it is.
+const TOLD: &[&str] = &["trace", "verify", "statement"];
+
+/// Writes the text of a trace, of a look at a journal or of a statement as it is, and of answers
+/// whether they are those of the stream.
 fn tell_out(rt: &HostRuntime, alloc: Global, line: &Line<'_>, out: &[u8]) {
     if out.is_empty() {
         say(rt, b"nothing written\n");
-    } else if line.words.starts_with("trace") || line.words.starts_with("verify") {
+    } else if TOLD.iter().any(|command| line.words.starts_with(*command)) {
         say(rt, out);
     } else if is_as_expected(rt, alloc, line.stream, out) {
         say(rt, b"as expected\n");

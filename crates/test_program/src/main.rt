@@ -8,10 +8,10 @@
 //! line. HOW is `plain`, `failing reader` (it fails behind the stream's last byte) or `full writer`
 //! (it takes no byte). Of each line the program writes how the run ended, with its status and the
 //! first line of its text, and whether what it wrote is what the file of the stream's name with
-//! `.out` for `.fix` holds; of a trace, what it wrote. In WORDS `PORT` stands for a port that is in
-//! use. A book is kept in journals in memory (`journals.rt`). Then it writes the text of each
-//! error, and what the clients of servers were told (`servers.rt`). It ends with the status of the
-//! last line's run.
+//! `.out` for `.fix` holds; of a trace or a statement, what it wrote. In WORDS `PORT` stands for a
+//! port that is in use. A book is kept in journals in memory (`journals.rt`). Then it writes the
+//! text of each error, and what the clients of servers were told (`servers.rt`). It ends with the
+//! status of the last line's run.
 #![tactic(auto)]
 
 mod asking;

@@ -4,6 +4,7 @@ use Rattle.clap.specs.Words.{found_of, takes}
 use Rattle.gu_command.proofs.CommandLines.{batch_taken, totals_taken, trace_taken, serve_taken, keep_taken}
 use Rattle.gu_command.proofs.CommandLines.{verify_taken, backup_taken, verify_read, backup_read}
 use Rattle.gu_command.proofs.CommandLines.{extend_taken, extend_read, roll_taken, roll_read}
+use Rattle.gu_command.proofs.CommandLines.{statement_taken, statement_read}
 use Rattle.gu_command.proofs.CommandLines.{found_here, line_found}
 use Rattle.gu_command.proofs.CommandLines.{batch_read, totals_read, trace_read, serve_read, keep_read, line_read}
 use Rattle.gu_command.proofs.line.command_line.Goals as goal
@@ -58,6 +59,11 @@ returns-in-Err-clause-roll c path file larger copy words_are plain plain_file pl
     c.usage.ensures.memory
     (c.in-Err.ensures.passes (ap₂ takes c.in_ok-program_command.ensures.0 words_are
     ∙ roll_taken path file larger copy plain plain_file plain_larger plain_copy))
+
+pub returns-in-Err-clause-statement : goal.returns-in-Err-clause-statement
+returns-in-Err-clause-statement c path words_are plain =
+    c.usage.ensures.memory
+    (c.in-Err.ensures.passes (ap₂ takes c.in_ok-program_command.ensures.0 words_are ∙ statement_taken path plain))
 
 pub returns-in-Err-clause-taken : goal.returns-in-Err-clause-taken
 returns-in-Err-clause-taken c is =
@@ -155,6 +161,15 @@ returns-clause-roll c path file larger copy words_are plain plain_file plain_lar
     roll_read c.line_of.result words c.in-Some.name.now path file larger copy _ _ words_are plain plain_file
     plain_larger plain_copy found.0 found.1 c.line_of.ensures.read c.line_of.ensures.roll
 
+pub returns-clause-statement : goal.returns-clause-statement
+returns-clause-statement c path words_are plain =
+    let words = map (λ w. w.bytes.items) c.args.words.now in
+    let found = found_here _ words c.in-Ok.matches c.in-Some.name.now (found_of c.in-Some.given.now)
+    c.in_ok-program_command.ensures.0 (λ h. (c.in-Ok.ensures.matches h).1) c.in-Some.ensures.name
+    c.in-Some.ensures.rows in
+    statement_read c.line_of.result words c.in-Some.name.now path _ _ words_are plain found.0 found.1
+    c.line_of.ensures.read c.line_of.ensures.statement
+
 pub returns-clause-taken : goal.returns-clause-taken
 returns-clause-taken c is =
     let words = map (λ w. w.bytes.items) c.args.words.now in
@@ -164,3 +179,4 @@ returns-clause-taken c is =
     line_read c.line_of.result words c.in-Some.name.now _ _ is.line is.found found.0 found.1 found.2
     c.line_of.ensures.batch c.line_of.ensures.trace c.line_of.ensures.serve c.line_of.ensures.keep
     c.line_of.ensures.verify c.line_of.ensures.backup c.line_of.ensures.extend c.line_of.ensures.roll
+    c.line_of.ensures.statement

@@ -46,7 +46,13 @@ returns-in-Extend-clause-does g c words line =
     c.extend_by.ensures.does words _ found.0 (search (rules, found.1)) found.2 found.3 found.4
 
 -- a new book was begun
-pub returns-clause-does : goal.returns-clause-does
-returns-clause-does g c words line =
+pub returns-in-Roll-clause-does : goal.returns-in-Roll-clause-does
+returns-in-Roll-clause-does g c words line =
     let found = subst (λ (l : Line). IsLine words l) c.in-Roll.is line in
     c.roll_by.ensures.does words _ _ _ found.0 (search (rules, found.1)) found.2 found.3 found.4 found.5
+
+-- a statement was written
+pub returns-clause-does : goal.returns-clause-does
+returns-clause-does g c words line =
+    let found = subst (λ (l : Line). IsLine words l) c.in-Statement.is line in
+    c.statement_by.ensures.does words found.0 found.1 found.2 found.3
