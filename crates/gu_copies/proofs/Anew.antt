@@ -8,7 +8,8 @@ use Rattle.gu_batch.specs.Counts.{Fails}
 use Rattle.gu_batch.specs.declared.batch.RunError.TheVariants.{Write}
 use Rattle.gu_command.specs.Faults.{is_keep_fault}
 use Rattle.gu_command.specs.declared.fault.Fault.{Fault}
-use Rattle.gu_command.specs.declared.fault.Fault.TheVariants.{Usage, HouseFile, HouseLine, NoFirm, Service, Journal, Keep, Run}
+use Rattle.gu_command.specs.declared.fault.Fault.TheVariants.{Usage, HouseFile, HouseLine, NoFirm, Service}
+use Rattle.gu_command.specs.declared.fault.Fault.TheVariants.{Journal, Keep, Run}
 use Rattle.gu_copies.specs.Extended.{IsExtension, IsWrittenAnew}
 use Rattle.gu_copies.specs.Rolled.{IsNewBook, HasRolled, Rolls, rolled_line}
 use Rattle.gu_roll.specs.declared.keep.Keep.{Keep as Kept}
