@@ -1,5 +1,5 @@
 //! The lines of a statement: what each says. The names of their members, and who may see what,
-//! stand in statement.md, beside src/.
+//! stand in `docs/statement.md`.
 use crate::heard::RefusedCall;
 use gu_base::{
     Account, AllocId, Charge, Command, Deal, FirmId, InstrumentId, Node, NodeName, Number, Place,

@@ -44,7 +44,7 @@ fn write_lines<W: Sink>(
 }
 
 /// Writes the statement of a book: for its house, or for this firm what it may see
-/// (`statement.md`, beside src/).
+/// (`docs/statement.md`).
 ///
 /// # Errors
 ///
