@@ -1,6 +1,6 @@
 //! The journal of a history under a house table that extends its own.
 
-ghost use Rattle.std.specs.Prelude.{◌≡◌, ◌≤◌, length, IfOk, IfErr, OnOk};
+ghost use Rattle.std.specs.Prelude.{◌≡◌, ◌≤◌, [], length, IfOk, IfErr, OnOk};
 ghost use Rattle.gu_base.specs.House.{HasLawfulOpening};
 ghost use Rattle.gu_base.specs.Limits.{most_entries};
 ghost use Rattle.gu_base.specs.Runs.{opening_history, IsRunFrom};
@@ -13,8 +13,8 @@ ghost use Rattle.gu_roll.specs.Extended.{IsExtended, IsLack, IsRefusal, IsUnwrit
 
 use crate::error::ExtendError;
 use crate::extending::check_extends;
-use crate::groups::{MOMENT, commit_groups, first_moment};
-use gu_base::{Entry, Number};
+use crate::groups::{Groups, MOMENT, commit_groups, groups_of};
+use gu_base::{Entry, Memory, Number};
 use gu_book::{Book, HashKey};
 use gu_image::Image;
 use gu_journal::laws::kept_is_read;
@@ -25,18 +25,36 @@ use gu_lives::a_larger_house_keeps_the_history;
 use gu_parties::House;
 use std::alloc::Global;
 
-/// The book of a journal, and the bytes of it that count.
+/// What is left of a journal's bytes beside its book: what they tell of groups, and their room.
+#[derive(Drop)]
+pub(crate) struct Form {
+    groups: Groups,
+    room: Vec<u8>,
+}
+
+/// The form of the bytes of a journal that count, whose book has so many entries in its opening.
+fn form_of(alloc: Global, bytes: Vec<u8>, opening: usize) -> Result<Form, Memory>
+    ensures { IfOk result (λ r. r.room.items ≡ []) }
+{
+    let groups = groups_of(alloc, &bytes, opening)?;
+    let mut room = bytes;
+    room.clear();
+    Ok(Form { groups, room })
+}
+
+/// The book of a journal in the bytes of its file, and the form of those that count.
 pub(crate) fn counted(
     alloc: Global,
     file: Vec<u8>,
     house: House,
     key: HashKey,
     pin: &HouseDigest,
-) -> Result<(Book, Vec<u8>), RecoverError>
+) -> Result<(Book, Form), RecoverError>
     ensures house { IfOk result (λ r. r.0.house ≡ house) }
     ensures run { IfOk result (λ r. IsRunFrom house (opening_history house) r.0.history) }
     ensures recovers { IfOk result (λ r. Recovers house pin.now.bytes file.items r.0.history) }
     ensures later { IfOk result (λ r. HasNoLater house pin.now.bytes file.items r.0.history) }
+    ensures room { IfOk result (λ r. r.1.room.items ≡ []) }
     ensures refusal { IfErr result (IsRefusal house pin.now.bytes file.items) }
 {
     let disk = Image::new(file);
@@ -45,7 +63,13 @@ pub(crate) fn counted(
             let len = journal.len();
             let mut bytes = journal.into_disk().into_bytes();
             bytes.truncate(len);
-            Ok((book, bytes))
+            match form_of(alloc, bytes, book.house().opening_count()) {
+                Ok(form) => Ok((book, form)),
+                Err(_) => {
+                    drop(book);
+                    Err(RecoverError::Memory)
+                }
+            }
         }
         Err(Unrecovered { disk, error }) => {
             drop(disk);
@@ -54,21 +78,22 @@ pub(crate) fn counted(
     }
 }
 
-/// A journal in memory of a house in its opening, whose head has this moment, and how many entries
-/// it has.
+/// A journal in an empty room of a house in its opening, whose head has this moment, and how many
+/// entries it has.
 fn begun(
     alloc: Global,
+    room: Vec<u8>,
     house: House,
     key: HashKey,
     pin: &HouseDigest,
     moment: &[u8],
 ) -> Result<(Journal<Image>, usize), RecoverError>
+    requires { room.items ≡ [] }
     ensures keeps { IfOk result (λ r. Keeps seen_of leaves house pin.now.bytes
         (opening_history house) r.0) }
     ensures have { IfOk result (λ r. r.1 ≡ length (opening_history house)) }
 {
-    let none = Vec::new(alloc);
-    let disk = Image::new(none);
+    let disk = Image::new(room);
     match recover(alloc, disk, house, key, pin, moment, &mut Silent) {
         Ok(Recovered { book, journal }) => {
             let have = book.history().len();
@@ -82,28 +107,30 @@ fn begun(
     }
 }
 
-/// The file of a journal of this history, whose groups and moments are those of another journal.
-/// The other one has all entries, or each entry has one of these numbers there.
+/// The file of a journal of this history in the form of another journal: with its groups and
+/// moments, in its room. The other one has all entries, or each has one of these numbers there.
 pub(crate) fn written(
     alloc: Global,
     history: &[Entry],
     numbers: Option<&[Number]>,
-    bytes: &[u8],
+    form: Form,
     house: House,
     key: HashKey,
     pin: &HouseDigest,
 ) -> Result<Vec<u8>, ExtendError>
+    requires room { form.room.items ≡ [] }
     requires run { IsRunFrom house (opening_history house) history.now }
     ensures again { IfOk result (λ new. Recovers house pin.now.bytes new.items history.now) }
     ensures part { IfOk result (λ new. IsPart house pin.now.bytes new.items) }
     ensures unwritten { IfErr result IsUnwritten }
 {
-    let (mut journal, have) = match begun(alloc, house, key, pin, first_moment(bytes)) {
+    let Form { groups, room } = form;
+    let (mut journal, have) = match begun(alloc, room, house, key, pin, groups.begun()) {
         Ok(begun) => begun,
         Err(error) => return Err(ExtendError::Unbegun(error)),
     };
     kept_is_read::<Image>();
-    match commit_groups(&mut journal, history, numbers, have, bytes) {
+    match commit_groups(&mut journal, history, numbers, have, &groups) {
         Ok(()) => Ok(journal.into_disk().into_bytes()),
         Err(error) => {
             drop(journal);
@@ -116,17 +143,18 @@ pub(crate) fn written(
 fn moved(
     alloc: Global,
     book: &Book,
-    bytes: &[u8],
+    form: Form,
     house: House,
     key: HashKey,
     pin: &HouseDigest,
 ) -> Result<Vec<u8>, ExtendError>
+    requires room { form.room.items ≡ [] }
     requires run { IsRunFrom house (opening_history house) book.now.history }
     ensures again { IfOk result (λ new. Recovers house pin.now.bytes new.items book.now.history) }
     ensures part { IfOk result (λ new. IsPart house pin.now.bytes new.items) }
     ensures unwritten { IfErr result IsUnwritten }
 {
-    written(alloc, book.history(), None, bytes, house, key, pin)
+    written(alloc, book.history(), None, form, house, key, pin)
 }
 
 /// Whether a journal under a house table can be written anew under another.
@@ -177,15 +205,14 @@ pub fn extend(
             return Err(error);
         }
     }
-    let (book, bytes) = match counted(alloc, file, house, key, pin) {
+    let (book, form) = match counted(alloc, file, house, key, pin) {
         Ok(found) => found,
         Err(error) => {
             drop(new);
             return Err(ExtendError::Refused(error));
         }
     };
-    let made = moved(alloc, &book, &bytes, new, key, new_pin);
-    drop(bytes);
+    let made = moved(alloc, &book, form, new, key, new_pin);
     drop(book);
     made
 }

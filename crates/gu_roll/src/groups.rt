@@ -7,13 +7,17 @@ ghost use Rattle.gu_base.specs.declared.entry.Entry.{Entry as EntryData};
 ghost use Rattle.gu_image.specs.Image.{seen_of, leaves};
 ghost use Rattle.gu_journal.specs.Keeping.{Keeps};
 
-use gu_base::{Entry, Number};
+use gu_base::{Entry, Memory, Number};
 use gu_codec::{Fields, Frame, read_frame, tags};
 use gu_image::Image;
 use gu_journal::{Journal, JournalError, Nothing};
+use std::alloc::Global;
 
 /// The moment of what has none that can be told.
 pub(crate) const MOMENT: &[u8] = b"19700101-00:00:00.000";
+
+/// The longest moment that a journal has, in bytes.
+const LONGEST: usize = 24;
 
 /// MsgType (35) of the head, a Logon.
 const HEAD: &[u8] = b"A";
@@ -64,12 +68,72 @@ fn told_at(bytes: &[u8], at: usize) -> Option<(Told<'_>, usize)>
     }
 }
 
-/// The moment of the first message of a journal.
-pub(crate) fn first_moment(bytes: &[u8]) -> &[u8] {
-    match told_at(bytes, 0) {
-        Some((told, _)) => told.moment,
-        None => MOMENT,
+/// A moment of a journal.
+#[derive(Clone, Copy)]
+struct Moment {
+    text: [u8; LONGEST],
+    len: u8,
+}
+
+impl Moment {
+    /// The moment that a text tells, which has at most 24 bytes in a journal.
+    fn of(text: &[u8]) -> Moment {
+        let len = text.len().min(LONGEST);
+        let mut room = [0u8; LONGEST];
+        room[..len].copy_from_slice(&text[..len]);
+        Moment {
+            text: room,
+            len: len as u8,
+        }
     }
+
+    /// Its text.
+    fn as_bytes(&self) -> &[u8] {
+        let len = (self.len as usize).min(LONGEST);
+        &self.text[..len]
+    }
+}
+
+/// A group of a journal: when it was committed, and which number its book's last entry has then.
+#[derive(Clone, Copy)]
+struct Group {
+    moment: Moment,
+    last: u32,
+}
+
+/// What a journal tells beside its entries: when it was begun, and its groups in their order.
+#[derive(Drop)]
+pub(crate) struct Groups {
+    begun: Moment,
+    groups: Vec<Group>,
+}
+
+impl Groups {
+    /// The moment at which the journal was begun.
+    pub(crate) fn begun(&self) -> &[u8] {
+        self.begun.as_bytes()
+    }
+}
+
+/// What the bytes of a journal tell beside its entries, whose book has so many in its opening. It
+/// takes 32 bytes a group.
+pub(crate) fn groups_of(alloc: Global, bytes: &[u8], opening: usize) -> Result<Groups, Memory> {
+    let mut begun = Moment::of(MOMENT);
+    let mut groups = Vec::new(alloc);
+    let mut last = opening.min(u32::MAX as usize) as u32;
+    let mut at = 0;
+    'frames: while let Some((told, end)) = told_at(bytes, at) {
+        if told.kind == HEAD {
+            begun = Moment::of(told.moment);
+        } else if told.kind == SEAL {
+            let moment = Moment::of(told.moment);
+            groups.push(Group { moment, last })?;
+        } else {
+            last = last.saturating_add(1);
+        }
+        at = end;
+    }
+    Ok(Groups { begun, groups })
 }
 
 /// Commits the entries of a history from a place to another.
@@ -90,82 +154,67 @@ fn commit_between(
     journal.commit(moment, &history[from..to], &mut Nothing)
 }
 
-/// How many entries of a history are committed, how many are to be by the next seal, and behind how
-/// many entries of the other journal that is.
-#[derive(Clone, Copy)]
-struct Far {
-    done: usize,
-    ready: usize,
-    passed: usize,
-}
-
-/// Whether the next entry of the other journal is the history's next one, whose entries have these
-/// numbers there. With no numbers each is.
-fn is_next(numbers: Option<&[Number]>, far: Far) -> bool {
-    let Some(numbers) = numbers else {
-        return true;
-    };
-    match numbers.get(far.ready) {
-        Some(number) => number.get() as usize - 1 == far.passed,
-        None => false,
+/// Whether the entry at a place is one of the other journal's up to the entry of this number: with
+/// these numbers there, or with its own.
+fn is_up_to(numbers: Option<&[Number]>, place: usize, last: u32) -> bool {
+    match numbers {
+        Some(numbers) => match numbers.get(place) {
+            Some(number) => number.get() <= last,
+            None => false,
+        },
+        None => place < last as usize,
     }
 }
 
-/// Whether a seal of the other journal has nothing to seal: all entries of its group were left out.
-fn is_bare(numbers: Option<&[Number]>, far: Far) -> bool {
-    numbers.is_some() && far.ready == far.done
+/// Up to where a history has the entries of the other journal up to the entry of this number, of
+/// which so many are committed.
+fn end_of(history: &[Entry], numbers: Option<&[Number]>, done: usize, last: u32) -> usize
+    requires { done ≤ length history.now }
+    ensures { (done ≤ result) × (result ≤ length history.now) }
+{
+    for place in done..history.len() {
+        if !is_up_to(numbers, place, last) {
+            return place;
+        }
+    }
+    history.len()
 }
 
-/// Goes on behind a message: at a seal the entries of its group are committed.
-fn go_on(
+/// Commits what a group of the other journal has of a history, of which so many entries are
+/// committed: how many are then. One of which all was left out isn't committed.
+fn commit_group(
     journal: &mut Journal<Image>,
     history: &[Entry],
     numbers: Option<&[Number]>,
-    far: Far,
-    told: Told<'_>,
-) -> Result<Far, JournalError>
-    requires order { far.done ≤ far.ready }
-    requires within { far.ready ≤ length history.now }
-    ensures later { IfOk result (λ next. (far.done ≤ next.done) × (next.done ≤ next.ready)
-        × (next.ready ≤ length history.now)) }
+    done: usize,
+    group: &Group,
+) -> Result<usize, JournalError>
+    requires { done ≤ length history.now }
+    ensures later { IfOk result (λ next. (done ≤ next) × (next ≤ length history.now)) }
     ensures kept { (t : House) (pin : List ℕ) (opening : List EntryData)
-        → IsRunFrom t opening history.now → length opening ≤ far.done
-        → Keeps seen_of leaves t pin (take far.done history.now) journal.old
-        → IfOk result (λ next.
-        Keeps seen_of leaves t pin (take next.done history.now) journal.new) }
+        → IsRunFrom t opening history.now → length opening ≤ done
+        → Keeps seen_of leaves t pin (take done history.now) journal.old
+        → IfOk result (λ next. Keeps seen_of leaves t pin (take next history.now) journal.new) }
 {
-    if told.kind == HEAD || told.kind == SEAL && is_bare(numbers, far) {
-        return Ok(far);
+    let end = end_of(history, numbers, done, group.last);
+    if end == done && numbers.is_some() {
+        return Ok(done);
     }
-    if told.kind == SEAL {
-        commit_between(journal, history, far.done, far.ready, told.moment)?;
-        return Ok(Far {
-            done: far.ready,
-            ready: far.ready,
-            passed: far.passed,
-        });
+    match commit_between(journal, history, done, end, group.moment.as_bytes()) {
+        Ok(()) => Ok(end),
+        Err(error) => Err(error),
     }
-    let ready = if far.ready < history.len() && is_next(numbers, far) {
-        far.ready + 1
-    } else {
-        far.ready
-    };
-    Ok(Far {
-        done: far.done,
-        ready,
-        passed: far.passed.saturating_add(1),
-    })
 }
 
-/// Commits the entries of a history behind those that a journal has, group by group as the bytes of
-/// another journal say them, and those that are left last. The other journal has all of them, or
-/// under these numbers.
+/// Commits the entries of a history behind those that a journal has, group by group as another
+/// journal has them, and those that are left last. The other journal has all of them, or under
+/// these numbers.
 pub(crate) fn commit_groups(
     journal: &mut Journal<Image>,
     history: &[Entry],
     numbers: Option<&[Number]>,
     have: usize,
-    bytes: &[u8],
+    groups: &Groups,
 ) -> Result<(), JournalError>
     requires few { have ≤ length history.now }
     ensures { (t : House) (pin : List ℕ) (opening : List EntryData)
@@ -173,20 +222,14 @@ pub(crate) fn commit_groups(
         → Keeps seen_of leaves t pin (take have history.now) journal.old
         → OnOk result (Keeps seen_of leaves t pin history.now journal.new) }
 {
-    let mut far = Far {
-        done: have,
-        ready: have,
-        passed: have,
-    };
-    let mut at = 0;
-    let mut moment = MOMENT;
-    'frames: while let Some((told, end)) = told_at(bytes, at) {
-        moment = told.moment;
-        far = go_on(journal, history, numbers, far, told)?;
-        at = end;
+    let mut done = have;
+    let mut moment = groups.begun;
+    for group in &groups.groups {
+        moment = group.moment;
+        done = commit_group(journal, history, numbers, done, group)?;
     }
-    if far.done == history.len() {
+    if done == history.len() {
         return Ok(());
     }
-    commit_between(journal, history, far.done, history.len(), moment)
+    commit_between(journal, history, done, history.len(), moment.as_bytes())
 }

@@ -1,6 +1,6 @@
 //! The journal of a new book, which has the live changes of an old one alone.
 
-ghost use Rattle.std.specs.Prelude.{◌≡◌, ◌≤◌, length, IsTrue, IfOk, IfErr, OnOk};
+ghost use Rattle.std.specs.Prelude.{◌≡◌, ◌≤◌, [], length, IsTrue, IfOk, IfErr, OnOk};
 ghost use Rattle.gu_base.specs.House.{HasLawfulOpening};
 ghost use Rattle.gu_base.specs.Limits.{most_entries};
 ghost use Rattle.gu_base.specs.Runs.{opening_history, IsRunFrom};
@@ -10,7 +10,7 @@ ghost use Rattle.gu_roll.specs.Reopened.{begun_under};
 ghost use Rattle.gu_roll.specs.Rolled.{IsRolledInto, IsRollWhy, IsOtherLack, IsUnmade};
 ghost use Rattle.gu_roll.specs.Rolled.{IsUnrolled};
 
-use crate::anew::{counted, written};
+use crate::anew::{Form, counted, written};
 use crate::error::{ExtendError, RollError};
 use crate::extending::{check_extends, check_has_more};
 use crate::keep::Asked;
@@ -53,10 +53,11 @@ fn written_anew(
     alloc: Global,
     entries: &[Entry],
     tally: Tally,
-    bytes: &[u8],
+    form: Form,
     new: PinnedHouse,
     key: HashKey,
 ) -> Result<RolledBook, RollError>
+    requires room { form.room.items ≡ [] }
     requires run { IsRunFrom new.house (opening_history new.house) entries.now }
     ensures again { IfOk result (λ r. Recovers new.house new.pin.bytes r.bytes.items entries.now) }
     ensures part { IfOk result (λ r. IsPart new.house new.pin.bytes r.bytes.items) }
@@ -70,7 +71,7 @@ fn written_anew(
         shares,
     } = tally;
     let PinnedHouse { house, pin } = new;
-    match written(alloc, entries, Some(&numbers), bytes, house, key, &pin) {
+    match written(alloc, entries, Some(&numbers), form, house, key, &pin) {
         Ok(bytes) => Ok(RolledBook {
             bytes,
             numbers,
@@ -91,10 +92,11 @@ fn written_again(
     alloc: Global,
     entries: Vec<Entry>,
     tally: Tally,
-    bytes: &[u8],
+    form: Form,
     new: PinnedHouse,
     key: HashKey,
 ) -> Result<RolledBook, RollError>
+    requires { form.room.items ≡ [] }
     ensures again { IfOk result (λ r. Recovers new.house new.pin.bytes r.bytes.items
         (begun_under new.house entries.items)) }
     ensures part { IfOk result (λ r. IsPart new.house new.pin.bytes r.bytes.items) }
@@ -106,12 +108,13 @@ fn written_again(
     drop(entries);
     match found {
         Ok(book) => {
-            let made = written_anew(alloc, book.history(), tally, bytes, new, key);
+            let made = written_anew(alloc, book.history(), tally, form, new, key);
             drop(book);
             made
         }
         Err(error) => {
             drop(tally);
+            drop(form);
             drop(new);
             Err(error)
         }
@@ -124,10 +127,11 @@ fn written_of(
     alloc: Global,
     picked: Picked,
     extends: bool,
-    bytes: &[u8],
+    form: Form,
     new: PinnedHouse,
     key: HashKey,
 ) -> Result<RolledBook, RollError>
+    requires room { form.room.items ≡ [] }
     requires run { IsTrue extends → IsTrue picked.is_whole
         → IsRunFrom new.house (opening_history new.house) picked.entries.items }
     requires begun { IsTrue extends → IsTrue picked.is_whole
@@ -145,9 +149,9 @@ fn written_of(
         is_whole,
     } = picked;
     if extends && is_whole {
-        written_anew(alloc, &entries, tally, bytes, new, key)
+        written_anew(alloc, &entries, tally, form, new, key)
     } else {
-        written_again(alloc, entries, tally, bytes, new, key)
+        written_again(alloc, entries, tally, form, new, key)
     }
 }
 
@@ -204,7 +208,7 @@ pub fn roll(
         }
     };
     let PinnedHouse { house, pin } = old;
-    let (book, bytes) = match counted(alloc, file, house, key, &pin) {
+    let (book, form) = match counted(alloc, file, house, key, &pin) {
         Ok(found) => found,
         Err(error) => {
             drop(new);
@@ -214,9 +218,9 @@ pub fn roll(
     let found = pick(alloc, &book, &new.house, asked);
     drop(book);
     match found {
-        Ok(picked) => written_of(alloc, picked, extends, &bytes, new, key),
+        Ok(picked) => written_of(alloc, picked, extends, form, new, key),
         Err(error) => {
-            drop(bytes);
+            drop(form);
             drop(new);
             Err(error)
         }

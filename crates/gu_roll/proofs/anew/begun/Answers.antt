@@ -12,7 +12,7 @@ returns-in-Ok-clause-keeps c =
     let t = c.args.house in
     let pin = c.args.pin.now.bytes in
     let h = c.in-Ok.field-0.book.history in
-    let none : seen_of c.new-disk.result ≡ [] = c.new-disk.ensures ∙ c.new-none.ensures.items in
+    let none : seen_of c.new-disk.result ≡ [] = c.new-disk.ensures ∙ c.requires in
     let opens : h ≡ opening_history t =
     empty_opens t pin h (subst (λ (f : List ℕ). Recovers t pin f h) none (c.in-Ok.ensures.book refl)) in
     subst (λ (k : List Entry). Keeps seen_of leaves t pin k c.in-Ok.field-0.journal) opens (c.in-Ok.ensures.keeps refl)
@@ -22,7 +22,7 @@ returns-in-Ok-clause-have c =
     let t = c.args.house in
     let pin = c.args.pin.now.bytes in
     let h = c.in-Ok.field-0.book.history in
-    let none : seen_of c.new-disk.result ≡ [] = c.new-disk.ensures ∙ c.new-none.ensures.items in
+    let none : seen_of c.new-disk.result ≡ [] = c.new-disk.ensures ∙ c.requires in
     let opens : h ≡ opening_history t =
     empty_opens t pin h (subst (λ (f : List ℕ). Recovers t pin f h) none (c.in-Ok.ensures.book refl)) in
     let same : c.history-have.result.now ≡ h = search rules in

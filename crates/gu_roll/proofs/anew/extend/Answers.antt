@@ -4,6 +4,7 @@ use Rattle.gu_roll.proofs.anew.extend.Goals as goal
 pub moved-made-requires : goal.moved-made-requires
 moved-made-requires c =
     record {
+      room = c.in-Ok-counted.ensures.room;
       run =
           c.a_larger_house_keeps_the_history.ensures.run c.args.house c.args.new c.in-Ok-counted.found.0.history
           c.in-Ok.ensures.extends c.in-Ok.ensures.lawful c.in-Ok.ensures.small c.in-Ok-counted.ensures.run;

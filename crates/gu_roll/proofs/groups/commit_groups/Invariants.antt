@@ -1,4 +1,4 @@
-use Rattle.std.proofs.Common.{◌-◌, ◌≤◌, ℕ, List, length, take}
+use Rattle.std.proofs.Common.{◌≤◌, ℕ, List, length, take}
 use Rattle.gu_base.specs.House.{House}
 use Rattle.gu_base.specs.Runs.{IsRunFrom}
 use Rattle.gu_base.specs.declared.entry.Entry.{Entry}
@@ -6,15 +6,11 @@ use Rattle.gu_image.specs.Image.{seen_of, leaves}
 use Rattle.gu_journal.specs.Keeping.{Keeps}
 use Rattle.gu_roll.proofs.groups.commit_groups.Given as goal
 
-abbrev pub invariant-frames : goal.invariant-frames
-invariant-frames l = record {
-  behind : l.have ≤ l.far.done;
-  order : l.far.done ≤ l.far.ready;
-  within : l.far.ready ≤ length l.history;
+abbrev pub invariant-loop-group : goal.invariant-loop-group
+invariant-loop-group l = record {
+  behind : l.have ≤ l.done;
+  within : l.done ≤ length l.history;
   kept : (t : House) (pin : List ℕ) (opening : List Entry) → IsRunFrom t opening l.history
       → length opening ≤ l.have → Keeps seen_of leaves t pin (take l.have l.history) l.initial.journal
-      → Keeps seen_of leaves t pin (take l.far.done l.history) l.journal;
+      → Keeps seen_of leaves t pin (take l.done l.history) l.journal;
 }
-
-abbrev pub decreases-frames : goal.decreases-frames
-decreases-frames l = length l.bytes - l.at

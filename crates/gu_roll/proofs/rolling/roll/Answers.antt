@@ -27,6 +27,7 @@ written_of-requires c =
     → IsRunFrom u (opening_history u) k = λ extends whole.
     carried_runs t u h c.args.asked.keep (c.in-Ok.ensures.extends extends) (can whole) in
     record {
+      room = c.in-Ok-counted.ensures.room;
       run = λ extends whole.
           subst (λ (l : List Entry). IsRunFrom u (opening_history u) l) (sym are) (run extends whole);
       begun = λ extends whole.
