@@ -13,7 +13,8 @@ ghost use Rattle.gu_roll.specs.Extended.{IsExtended, IsLack, IsRefusal, IsUnwrit
 
 use crate::error::ExtendError;
 use crate::extending::check_extends;
-use crate::groups::{Groups, MOMENT, commit_groups, groups_of};
+use crate::groups::{Groups, commit_groups, groups_of};
+use crate::told::MOMENT;
 use gu_base::{Entry, Memory, Number};
 use gu_book::{Book, HashKey};
 use gu_image::Image;

@@ -1,72 +1,20 @@
 //! A history is written group by group, as its journal has it.
 
-ghost use Rattle.std.specs.Prelude.{◌≤◌, ◌<◌, ℕ, List, length, take, OnOk, IfOk, IfSome};
+ghost use Rattle.std.specs.Prelude.{◌≤◌, ℕ, List, length, take, OnOk, IfOk};
 ghost use Rattle.gu_base.specs.House.{House};
 ghost use Rattle.gu_base.specs.Runs.{IsRunFrom};
 ghost use Rattle.gu_base.specs.declared.entry.Entry.{Entry as EntryData};
 ghost use Rattle.gu_image.specs.Image.{seen_of, leaves};
 ghost use Rattle.gu_journal.specs.Keeping.{Keeps};
 
+use crate::told::{Kind, MOMENT, told_at};
 use gu_base::{Entry, Memory, Number};
-use gu_codec::{Fields, Frame, read_frame, tags};
 use gu_image::Image;
 use gu_journal::{Journal, JournalError, Nothing};
 use std::alloc::Global;
 
-/// The moment of what has none that can be told.
-pub(crate) const MOMENT: &[u8] = b"19700101-00:00:00.000";
-
 /// The longest moment that a journal has, in bytes.
 const LONGEST: usize = 24;
-
-/// MsgType (35) of the head, a Logon.
-const HEAD: &[u8] = b"A";
-
-/// MsgType (35) of a seal, a Heartbeat.
-const SEAL: &[u8] = b"0";
-
-/// What a message of a journal is, and when it was written.
-#[derive(Clone, Copy)]
-struct Told<'a> {
-    kind: &'a [u8],
-    moment: &'a [u8],
-}
-
-/// What these fields tell.
-fn told_in(fields: Fields<'_>) -> Told<'_> {
-    let mut kind: &[u8] = b"";
-    for (tag, value) in fields {
-        if tag == tags::MSG_TYPE {
-            kind = value;
-        }
-        if tag == tags::SENDING_TIME {
-            return Told {
-                kind,
-                moment: value,
-            };
-        }
-    }
-    Told {
-        kind,
-        moment: MOMENT,
-    }
-}
-
-/// What the message at a place tells, and where its frame ends; `None` where none stands there.
-fn told_at(bytes: &[u8], at: usize) -> Option<(Told<'_>, usize)>
-    ensures { IfSome result (λ r. (at < r.1) × (r.1 ≤ length bytes.now)) }
-{
-    if at >= bytes.len() {
-        return None;
-    }
-    match read_frame(&bytes[at..]) {
-        Frame::Whole { fields, len } => {
-            let end = at + len;
-            Some((told_in(fields), end))
-        }
-        _ => None,
-    }
-}
 
 /// A moment of a journal.
 #[derive(Clone, Copy)]
@@ -123,13 +71,11 @@ pub(crate) fn groups_of(alloc: Global, bytes: &[u8], opening: usize) -> Result<G
     let mut last = opening.min(u32::MAX as usize) as u32;
     let mut at = 0;
     'frames: while let Some((told, end)) = told_at(bytes, at) {
-        if told.kind == HEAD {
-            begun = Moment::of(told.moment);
-        } else if told.kind == SEAL {
-            let moment = Moment::of(told.moment);
-            groups.push(Group { moment, last })?;
-        } else {
-            last = last.saturating_add(1);
+        let moment = Moment::of(told.moment);
+        match told.kind {
+            Kind::Head => begun = moment,
+            Kind::Seal => groups.push(Group { moment, last })?,
+            Kind::Entry => last = last.saturating_add(1),
         }
         at = end;
     }

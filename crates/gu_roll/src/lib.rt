@@ -7,6 +7,7 @@
 //!   seals of their own. A start from it under the new house file gives that very history.
 //! - `roll` writes the journal of a new book, which has the live changes of an old one alone, with
 //!   numbers from 1 on.
+//! - `told_at` says of a message of a journal what it is, and its moment.
 #![tactic(auto)]
 
 mod anew;
@@ -21,6 +22,7 @@ mod picking;
 mod renumbered;
 mod rolling;
 mod sharing;
+mod told;
 mod waiting;
 
 pub use anew::extend;
@@ -31,3 +33,4 @@ pub use lack::Lack;
 pub use lost::Lost;
 pub use rolling::{PinnedHouse, RolledBook, roll};
 pub use sharing::Share;
+pub use told::{Kind, MOMENT, Told, told_at};

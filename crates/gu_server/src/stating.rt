@@ -1,6 +1,6 @@
 //! The statement of a book: of the one behind a stream, or of a journal's.
 
-ghost use Rattle.std.specs.Prelude.{◌≡◌, ◌<◌, ◌≤◌, length, option_map, IfOk, IfErr, IfSome};
+ghost use Rattle.std.specs.Prelude.{◌≡◌, option_map, IfOk, IfErr};
 ghost use Rattle.gu_journal.specs.Counting.{Recovers};
 ghost use Rattle.gu_journal.specs.Damages.{HasNoLater};
 ghost use Rattle.gu_server.specs.Stated.{known_firm, AreKnown, IsUnknown, StatesStream};
@@ -9,26 +9,17 @@ ghost use Rattle.gu_server.specs.Stated.{StatesJournal};
 use gu_base::{FirmId, Memory};
 use gu_batch::{Sink, Source};
 use gu_book::{Book, HashKey};
-use gu_codec::{Fields, Frame, read_frame, tags};
 use gu_command::{Fault, KeepError, Stating, fault_at};
 use gu_connection::new_key;
 use gu_copies::{JournalFiles, PinnedHouse};
 use gu_image::Image;
 use gu_journal::{HouseDigest, RecoverError, Recovered, Silent, Unrecovered, recover};
 use gu_parties::House;
+use gu_roll::{Kind, MOMENT, told_at};
 use gu_statement::{Heard, Times, hear, write_statement};
 use std::alloc::Global;
 use std::io::Eprint;
 use std::random::RandomSource;
-
-/// The moment of the head that a start would begin an empty file with.
-const MOMENT: &[u8; 21] = b"19700101-00:00:00.000";
-
-/// MsgType (35) of a journal's head, a Logon.
-const HEAD: &[u8] = b"A";
-
-/// MsgType (35) of a seal, a Heartbeat.
-const SEAL: &[u8] = b"0";
 
 /// The firm that a word names, if the house table has it.
 fn firm_of(house: &House, word: &str) -> Option<FirmId>
@@ -81,57 +72,12 @@ pub(crate) fn state_stream<R: Source, W: Sink>(
     }
 }
 
-/// What a message of a journal is, and when it was written.
-#[derive(Clone, Copy)]
-struct Told<'a> {
-    kind: &'a [u8],
-    moment: &'a [u8],
-}
-
-impl Told<'_> {
-    /// Whether it says an entry.
-    fn is_entry(&self) -> bool {
-        self.kind != HEAD && self.kind != SEAL
-    }
-}
-
-/// What these fields tell.
-fn told_in(fields: Fields<'_>) -> Told<'_> {
-    let mut told = Told {
-        kind: b"",
-        moment: b"",
-    };
-    for (tag, value) in fields {
-        if tag == tags::MSG_TYPE {
-            told.kind = value;
-        }
-        if tag == tags::SENDING_TIME {
-            told.moment = value;
-            return told;
-        }
-    }
-    told
-}
-
-/// What the message at a place tells, and where its frame ends; `None` where none stands there.
-fn told_at(bytes: &[u8], at: usize) -> Option<(Told<'_>, usize)>
-    ensures { IfSome result (λ r. (at < r.1) × (r.1 ≤ length bytes.now)) }
-{
-    if at >= bytes.len() {
-        return None;
-    }
-    match read_frame(&bytes[at..]) {
-        Frame::Whole { fields, len } => Some((told_in(fields), at + len)),
-        _ => None,
-    }
-}
-
 /// How many entries are said from the front of these bytes on, sealed or not.
 fn entries_said(bytes: &[u8]) -> usize {
     let mut count = 0usize;
     let mut at = 0;
     'frames: while let Some((told, end)) = told_at(bytes, at) {
-        if told.is_entry() {
+        if told.kind == Kind::Entry {
             count = count.saturating_add(1);
         }
         at = end;
@@ -147,7 +93,7 @@ fn times_of(alloc: Global, bytes: &[u8], opening: usize) -> Result<Times, Memory
     }
     let mut at = 0;
     'frames: while let Some((told, end)) = told_at(bytes, at) {
-        if told.is_entry() {
+        if told.kind == Kind::Entry {
             times.push(told.moment)?;
         }
         at = end;
