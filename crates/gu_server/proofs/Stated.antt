@@ -1,10 +1,11 @@
 -- What was done where a statement was asked for.
 use Rattle.std.proofs.Common.{◌≡◌, ◌∙◌, ℕ, List, Option, Some, None, Result, Ok, Err, inl, inr, ap, codes, is_some}
 use Rattle.std.proofs.Common.{option_map, refl, subst}
-use Rattle.std.specs.Prelude.{IsTrue}
+use Rattle.std.specs.Prelude.{IsTrue, IfSome}
 use Rattle.std.proofs.lemmas.Bool.{false≢true}
 use Rattle.clap.specs.Words.{Text}
 use Rattle.gu_base.specs.House.{House}
+use Rattle.gu_base.specs.declared.entry.Entry.{Entry}
 use Rattle.gu_batch.specs.Runs.{Told}
 use Rattle.gu_batch.specs.declared.batch.RunError.{RunError}
 use Rattle.gu_batch.specs.declared.batch.RunError.TheVariants as run
@@ -12,6 +13,8 @@ use Rattle.gu_command.specs.Faults.{is_keep_fault}
 use Rattle.gu_command.specs.Lines.{firm_in, journal_in}
 use Rattle.gu_command.specs.declared.fault.Fault.{Fault}
 use Rattle.gu_command.specs.declared.fault.Fault.TheVariants as fault
+use Rattle.gu_journal.specs.Counting.{Recovers}
+use Rattle.gu_journal.specs.Damages.{HasNoLater}
 use Rattle.sha2.specs.Sha256.{sha256}
 use Rattle.gu_server.specs.Program.{Asks, HasDone, Does}
 use Rattle.gu_server.specs.Stated.{AreKnown, IsUnknown, States, StatesStream, StatesJournal}
@@ -136,3 +139,19 @@ unstated t pin known told failed (fault.HouseLine error) is = absurd (false≢tr
 unstated t pin known told failed (fault.NoFirm text) is = absurd (false≢true is)
 unstated t pin known told failed (fault.Service error) is = absurd (false≢true is)
 unstated t pin known told failed (fault.Run error) is = absurd (false≢true is)
+
+module _ (t : House) (pin : List ℕ) (known old new : Option (List ℕ)) (failed_before failed : ℕ) (h : List Entry)
+    (file : List ℕ) (same : IfSome known (λ bytes. file ≡ bytes)) (recovers : Recovers t pin file h)
+    (later : HasNoLater t pin file h) where
+  -- the statement of the book that the journal says was written, or not whole
+  pub told_of : {A : Type 0} (r : Result A Fault) → StatesStream r
+      → StatesJournal t pin known old new failed_before failed r
+  told_of (Ok x) states = (h, (file, same, recovers, later))
+  told_of (Err (fault.Run e)) states = (h, (file, same, recovers, later))
+  told_of (Err (fault.Usage text)) states = absurd states
+  told_of (Err fault.HouseFile) states = absurd states
+  told_of (Err (fault.HouseLine e)) states = absurd states
+  told_of (Err (fault.NoFirm text)) states = absurd states
+  told_of (Err (fault.Service e)) states = absurd states
+  told_of (Err (fault.Journal text)) states = absurd states
+  told_of (Err (fault.Keep e)) states = absurd states

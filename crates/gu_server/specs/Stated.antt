@@ -6,7 +6,6 @@ use Rattle.gu_base.specs.House.{House, knows_firm}
 use Rattle.gu_base.specs.Names.{is_firm_text}
 use Rattle.gu_base.specs.declared.entry.Entry.{Entry}
 use Rattle.gu_batch.specs.Runs.{Told}
-use Rattle.gu_batch.specs.declared.batch.RunError.{RunError}
 use Rattle.gu_batch.specs.declared.batch.RunError.TheVariants.{Memory}
 use Rattle.gu_command.specs.declared.fault.Fault.{Fault}
 use Rattle.gu_command.specs.declared.fault.Fault.TheVariants.{NoFirm, Journal, Keep, Run}

@@ -52,6 +52,36 @@ pub(crate) fn whose_of(
     }
 }
 
+/// What is heard of a stream, which is read to its end as a batch does.
+fn heard_by<R: Source>(
+    alloc: Global,
+    reader: &mut R,
+    house: House,
+    whose: Option<FirmId>,
+) -> Result<Heard, Fault>
+    ensures { StatesStream result }
+{
+    match hear(alloc, reader, house, whose) {
+        Ok(heard) => Ok(heard),
+        Err(error) => Err(Fault::Run(error)),
+    }
+}
+
+/// Writes the statement of what was heard.
+fn state<W: Sink>(
+    alloc: Global,
+    heard: &Heard,
+    whose: Option<FirmId>,
+    writer: &mut W,
+) -> Result<(), Fault>
+    ensures { StatesStream result }
+{
+    match write_statement(alloc, heard, whose, writer) {
+        Ok(()) => Ok(()),
+        Err(error) => Err(Fault::Run(error)),
+    }
+}
+
 /// Reads a stream to its end as a batch does, and writes the statement of the book behind it.
 pub(crate) fn state_stream<R: Source, W: Sink>(
     alloc: Global,
@@ -62,13 +92,13 @@ pub(crate) fn state_stream<R: Source, W: Sink>(
 ) -> Result<(), Fault>
     ensures { StatesStream result }
 {
-    let heard = match hear(alloc, reader, house, *whose) {
-        Ok(heard) => heard,
-        Err(error) => return Err(Fault::Run(error)),
-    };
-    match write_statement(alloc, &heard, *whose, writer) {
-        Ok(()) => Ok(()),
-        Err(error) => Err(Fault::Run(error)),
+    match heard_by(alloc, reader, house, *whose) {
+        Ok(heard) => {
+            let stated = state(alloc, &heard, *whose, writer);
+            drop(heard);
+            stated
+        }
+        Err(fault) => Err(fault),
     }
 }
 
@@ -213,8 +243,7 @@ pub(crate) fn state_journal<H: RandomSource + Eprint, F: JournalFiles, W: Sink>(
         Err(error) => return Err(fault_at(alloc, path, error)),
     };
     tell_left_out(rt, alloc, path, left_out);
-    match write_statement(alloc, &heard, whose, writer) {
-        Ok(()) => Ok(()),
-        Err(error) => Err(Fault::Run(error)),
-    }
+    let stated = state(alloc, &heard, whose, writer);
+    drop(heard);
+    stated
 }

@@ -26,7 +26,7 @@ returns-in-Err-whose_of-clause-does g c words is asked firm_is journal_is =
 -- the book is a journal's
 pub returns-in-Some-clause-does : goal.returns-in-Some-clause-does
 returns-in-Some-clause-does g c words is asked firm_is journal_is =
-    stated_by words _ _ (g.F.JournalFiles.is_copied c.args.files.now) _ c.in-Some.journal.now.bytes.items
+    stated_by words _ _ (g.F.JournalFiles.is_copied c.args.files.now) _ c.in-Some.journal.bytes.items
     _ _ _ _ _ _ _ c.state_journal.result c.in-Ok.house.pin.bytes
     (record {
       path = c.as_str-path.result.now;

@@ -1,7 +1,5 @@
-use Rattle.std.proofs.Common.{◌≡◌, rules, inl, inr, Ok, Some, codes}
+use Rattle.std.proofs.Common.{◌≡◌, rules, inl, inr}
 use Rattle.sha2.specs.Sha256.{sha256}
-use Rattle.gu_command.specs.Lines.{command_in, house_in}
-use Rattle.gu_server.specs.Program.{Asks}
 use Rattle.gu_server.proofs.Served.{verified_by, unverified_by, stopped}
 use Rattle.gu_server.proofs.program.verify_by.Goals as goal
 
