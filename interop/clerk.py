@@ -1,9 +1,10 @@
 """What interop/desk knows and does: `Told` is what a firm's reports have told it, `Done` the kept list of what its clerks did, and
-`Clerk` holds the session, sends what is pressed, and says what there is to see.
+`Clerk` holds the session, sends what is pressed, and says what there is to see, with what a statement has of it.
 
 A command's id is made of what it does, to what, and in which state of that: `desk claim 2.2 @2`. So two presses of a button, in one window
 or two, before a restart or after it, are one command: the service answers it twice and does it once.
 """
+import bisect
 import json
 import os
 import re
@@ -16,6 +17,7 @@ import session
 from session import Closed
 
 MOST = 500  # rows of a list that are shown
+OPEN = 25  # seconds for which a page is open after it asked: it asks each 20
 STATUS = {"0": "held", "6": "offered", "7": "reversed", "9": "claimed", "10": "refused", "12": "cancelled", "14": "consented"}
 ON_ENTRY = {"consent": "consent to the reversal of", "decline": "decline the reversal of", "reverse": "reverse"}
 SIDES = {"1": "buy", "2": "sell"}
@@ -41,9 +43,11 @@ class Told:
     def __init__(self, firm):
         self.firm, self.nodes, self.changes, self.asked = firm, {}, {}, {}
         self.accounts, self.firms = {}, {}  # names that came by, in their order
+        self.entries, self.fresh = [], []  # the reports' entries in order, and the nodes that aren't compared yet
 
     def take(self, report):
         entry, names, kind = report.count(755), report.get(72), report.get(794)
+        bisect.insort(self.entries, entry)
         if report.get(71) == "6":
             return self.reversal(entry, int(names), kind)
         deal = SIDES.get(report.get(54), ""), report.get(55)
@@ -55,8 +59,16 @@ class Told:
         elif report.get(78):
             self.split(entry, names, deal, list(zip(report.all(79), report.all(80), report.all(524))))
         else:
-            self.nodes[names] = Node(names, report.count(53), deal, "held", entry)
+            self.add(Node(names, report.count(53), deal, "held", entry))
             self.changes[entry] = ("trade", names, None, [names])
+
+    def add(self, node):
+        self.nodes[node.name] = node
+        self.fresh.append(node)
+
+    def after(self, entry):
+        """How many entries above one the reports told of."""
+        return len(self.entries) - bisect.bisect_right(self.entries, entry)
 
     def split(self, entry, names, deal, parts):
         node = self.nodes.get(names)
@@ -67,7 +79,7 @@ class Told:
             name = f"{entry}.{place}" if is_own else account
             state = "given" if is_given else "held" if is_own else "offer"
             kept = account if is_own and not is_given else ""
-            self.nodes[name] = Node(name, int(lots), deal, state, entry, kept, firm if is_given else "")
+            self.add(Node(name, int(lots), deal, state, entry, kept, firm if is_given else ""))
             self.accounts |= {kept: None} if kept else {}
             self.firms |= {firm: None} if is_given else {}
             made.append(name)
@@ -189,13 +201,16 @@ def rest_of(verb, target, more):
 
 
 class Clerk:
-    """The session of a firm, and what its clerks press."""
+    """The session of a firm, what its clerks press, and the firm's statement, where `latest` looks for one."""
 
-    def __init__(self, firm, path):
+    def __init__(self, firm, path, latest=None):
         self.firm, self.told, self.done = firm, Told(firm.firm), Done(path)
         self.changed, self.version, self.is_on, self.why = threading.Condition(), 0, False, ""
+        self.latest, self.statement, self.seen = latest, None, time.monotonic()
         self.queue = self.done.waiting()
         threading.Thread(target=self.works, daemon=True).start()
+        if latest:
+            threading.Thread(target=self.reads, daemon=True).start()
 
     def works(self):
         """Sends what was pressed, and listens."""
@@ -227,9 +242,37 @@ class Clerk:
         with self.changed:
             for report in reports:
                 self.told.take(report)
+            self.compares(self.told.fresh)
+            self.told.fresh.clear()
             if reports or (not why, why) != (self.is_on, self.why):
                 self.is_on, self.why = not why, why
                 self.tell()
+
+    def reads(self):
+        """Looks for a statement at first, and then while a page is open, or an offer or an answer is waited for."""
+        while True:
+            if self.latest.look():
+                with self.changed:
+                    self.statement = self.latest.statement
+                    self.compares(self.told.nodes.values())
+                    self.tell()
+            time.sleep(1)
+            while not self.is_waited_for():
+                time.sleep(1)
+
+    def is_waited_for(self):
+        with self.changed:
+            is_open = time.monotonic() - self.seen < OPEN
+            return is_open or bool(self.queue) or any(it.state == "offer" for it in self.told.nodes.values())
+
+    def compares(self, nodes):
+        """Refuses a statement that says of one of these nodes what the session doesn't: it is of another book."""
+        for node in nodes if self.statement else ():
+            known = self.statement.nodes.get(node.name)
+            if known and known[:3] != (node.lots, *node.deal):
+                self.statement = None
+                self.latest.refuse(f"it is of another book: the session tells otherwise of {node.name}")
+                return
 
     def tell(self):
         self.version += 1
@@ -249,14 +292,48 @@ class Clerk:
     def view(self, after, seconds):
         """What there is to see, as soon as it isn't what was seen."""
         with self.changed:
+            self.seen = time.monotonic()
             self.changed.wait_for(lambda: self.version != after, seconds)
-            lists = {name: [it.shown() for it in self.told.of(state)] for name, state in (("offers", "offer"), ("given", "given"), ("held", "held"))}
-            lists |= dict(reversals=list(self.told.reversals()), changes=list(self.told.undoable()))
+            nodes = dict(offers=self.told.of("offer"), given=self.told.of("given"), held=self.told.of("held"))
+            lists = dict(reversals=list(self.told.reversals()), changes=list(self.told.undoable()))
+            lists["positions"] = self.positions()
             keys = ("id", "words", "who", "when", "answer", "is_well")
             lists["done"] = [{key: deed[key] for key in keys} for deed in reversed(self.done.list)]
-            counts = {name: len(rows) for name, rows in lists.items()}
-            return dict(version=self.version, isOn=self.is_on, why=self.why, firm=self.firm.firm, house=self.firm.house, counts=counts,
-                        accounts=list(self.told.accounts), firms=list(self.told.firms), **{name: rows[:MOST] for name, rows in lists.items()})
+            counts = {name: len(rows) for name, rows in {**nodes, **lists}.items()}
+            lists |= {name: [it.shown() | self.stated(it) for it in rows[:MOST]] for name, rows in nodes.items()}
+            found = dict(version=self.version, isOn=self.is_on, why=self.why, statement=self.of_statement())
+            found |= dict(firm=self.firm.firm, house=self.firm.house)
+            found |= dict(accounts=list(self.told.accounts), firms=list(self.told.firms))
+            return dict(**found, counts=counts, **{name: rows[:MOST] for name, rows in lists.items()})
+
+    def stated(self, node):
+        """What the statement says of a node; `lack` is said in the place of what it doesn't. Sums are texts, since a
+        browser's numbers end at 2^53."""
+        statement = self.statement
+        if not statement:
+            return dict(lack="not told")
+        found = dict(lack="not told yet" if node.version > statement.last else "not told")
+        known, offer = statement.nodes.get(node.name), statement.offers.get(node.name)
+        if known:
+            found |= dict(giver=known.giver, account=node.account or known.account)
+        if offer and offer.taker == (node.taker or self.firm.firm):
+            costs = {} if offer.fee is None else dict(rate=str(offer.rate), fee=str(offer.fee))
+            found |= dict(giver=offer.giver, since=offer.since, refusal=offer.refusal, **costs)
+        return found
+
+    def positions(self):
+        rows = self.statement.positions if self.statement else ()
+        return [{key: it[key] for key in ("account", "instrument", "long", "short")} for it in rows]
+
+    def of_statement(self):
+        """What there is to see of the statement itself: None where none is looked for."""
+        if not self.latest:
+            return None
+        found, statement = dict(why=self.latest.why, made=self.latest.made, last=None), self.statement
+        if statement:
+            sums = {name: str(statement.balance[name]) for name in ("paid", "received")}
+            found |= dict(last=statement.last, since=self.told.after(statement.last), **sums)
+        return found
 
 
 def said(answer):
