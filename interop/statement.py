@@ -1,4 +1,4 @@
-"""A firm's statement, as `allocd statement HOUSE --firm FIRM` writes it (crates/gu_statement/statement.md), for the
+"""A firm's statement, as `allocd statement HOUSE --firm FIRM` writes it (docs/statement.md), for the
 clerk's screen and the robot.
 
 - `Statement` is what the lines of a whole one say. What isn't sure isn't taken (`NoStatement`): a line that is cut, a
