@@ -1,0 +1,186 @@
+"""The lines of a statement (crates/gu_statement/statement.md) as Python objects: what all tools of this folder draw.
+
+A tool gets them from `allocd statement`, which it starts on HOUSE and DAY, or from a file of such lines. The program is
+$ALLOCD, or the one that `./allocd` starts. Nothing is reckoned here: each figure is the program's.
+"""
+import json
+import os
+import re
+import subprocess
+import tempfile
+
+from tool import Fault, called, content, say
+
+TOP = os.path.dirname(os.path.dirname(os.path.abspath(__file__)))
+FORM = 1  # of the statements that are read
+KIND = re.compile(rb'"kind":\s*"([a-z]+)"')
+HEAD, TRAILER = b"8=FIXT.1.1\x019=", re.compile(rb"\x0110=\d{3}\x01")  # of a frame
+KEPT = re.compile(rb"8=FIXT\.1\.1\x019=\d+\x0135=A\x01[^\0]{0,300}?\x011408=allocd-journal-")  # the front of `keep`'s journal
+OF_HOUSE = re.compile("house |cannot read house|no firm")  # how a fault of the house file begins, or of what it hasn't
+SHOWN_PARTS = 4  # of a split, in words
+ABOUT = {"initiate": "Consent to reverse", "decline": "Decline to reverse", "reverse": "Reverse"}
+
+
+class Statement:
+    """A statement: `book`, its first line; `firm`, whose it is, or None of one of the whole book; and its lines by kind."""
+
+    def __init__(self, name, lines):
+        self.name, self.raw, self.parsed = name, {}, {}
+        for line in lines:
+            kind = KIND.search(line)
+            self.raw.setdefault(kind and kind[1].decode(), []).append(line)
+        book = self.of("book")
+        if len(book) != 1 or None in self.raw or not KIND.search(lines[0])[1] == b"book":
+            raise Fault(f"{name} isn't the lines of a statement")
+        self.book, self.firm = book[0], book[0].get("firm")
+        if self.book.get("form") != FORM:
+            raise Fault(f"{name}: a statement of the form {self.book.get('form')}, and not {FORM}")
+
+    def of(self, kind):
+        """The lines of a kind, each a dict, in their order."""
+        if kind not in self.parsed:
+            try:
+                self.parsed[kind] = json.loads(b"[%b]" % b",".join(self.raw.get(kind, [])))
+            except ValueError:
+                raise Fault(f"{self.name} isn't the lines of a statement") from None
+        return self.parsed[kind]
+
+    def sees(self, firm):
+        """Whether what a firm does by itself is seen: it is the statement's own, or this is of the whole book."""
+        return self.firm in (None, firm)
+
+    def firms(self):
+        """The firms, the house first; of a firm's statement that one."""
+        return [it["firm"] for it in self.of("balance")]
+
+    def what(self, entry):
+        """What an entry does, in words."""
+        return f"{ABOUT[entry['command']]} {entry['change']}" if "change" in entry else WORDS[entry["command"]](self, entry)
+
+
+def trade(_, it):
+    place = f"{it['owner']}/{it['account']}" if "account" in it else it["owner"]
+    return f"{'Bought' if it['side'] == 'buy' else 'Sold'} {it['lots']} {it['instrument']} for {place}"
+
+
+def split(statement, it):
+    if not statement.sees(it["firm"]):
+        parts = [f"{part['lots']} lots as {part['name']}" for part in it["parts"]]
+        return f"Offer {shortened(parts)} to {statement.firm}"
+    parts = [f"{part['lots']} " + (part["account"] if "account" in part else f"to {part['firm']}") for part in it["parts"]]
+    return f"Split {it['node']} into {shortened(parts)}"
+
+
+def of_node(_, it):
+    return f"{it['command'].capitalize()} {it['node']}" + (f" into {it['account']}" if "account" in it else "")
+
+
+WORDS = {
+    "trade": trade, "split": split, "claim": of_node, "refuse": of_node, "cancel": of_node,
+    "agree": lambda _, it: f"{it['taker']} may take {it['limit']} lots of {it['giver']} at {money(it['rate'])}",
+    "raise": lambda _, it: f"Raise the limit with {it['giver']} by {it['lots']}",
+}
+
+
+def shortened(parts):
+    more = f" and {len(parts) - SHOWN_PARTS} more" if len(parts) > SHOWN_PARTS else ""
+    return ", ".join(parts[:SHOWN_PARTS]) + more
+
+
+def money(hundredths):
+    return f"{'-' if hundredths < 0 else ''}{abs(hundredths) // 100}.{abs(hundredths) % 100:02}"
+
+
+def program():
+    """The program: $ALLOCD, or what `./allocd` starts; in a package it lies there itself."""
+    named = os.environ.get("ALLOCD") or f"{TOP}/allocd"
+    is_clone = named == f"{TOP}/allocd" and os.path.isdir(f"{TOP}/crates")
+    if not os.access(f"{TOP}/crates/allocd/out/allocd" if is_clone else named, os.X_OK):
+        raise Fault(f"{named} isn't there, or isn't built: it tells what a book holds. ALLOCD may name another, as ./quick")
+    return os.path.abspath(named)
+
+
+def up_to_end(day, data):
+    """A stream up to its first zero, without a last frame that isn't whole yet."""
+    data, _, behind = data.partition(b"\0")
+    if behind.strip(b"\0"):
+        say(f"{called(day)}: what stands behind the zero at byte {len(data)} is left out")
+    last = data.rfind(b"\x0110=")
+    end = last + 8 if TRAILER.fullmatch(data, last, last + 8) else 0
+    rest = data[end:]
+    if rest and (HEAD.startswith(rest) or rest.startswith(HEAD)):
+        say(f"{called(day)}: the last frame, at byte {end}, isn't whole, and is left out")
+        data = data[:end]
+    return data
+
+
+def run(words, house, day, given=None):
+    """What the program writes. Its fault names the file that it is of."""
+    try:
+        done = subprocess.run(words, input=given, stdin=None if given is not None else subprocess.DEVNULL, capture_output=True)
+    except OSError as fault:
+        raise Fault(f"{words[0]}: {fault.strerror}") from None
+    said = done.stderr.decode(errors="replace").strip()
+    if done.returncode:
+        last = said.splitlines()[-1] if said else f"{words[0]} ended with {done.returncode}"
+        where = house if OF_HOUSE.match(last) else called(day)
+        if "--journal" in words:
+            last = last.removeprefix(f"{words[-1]}: ")
+        raise Fault(f"{where}: {last.removeprefix('house ')}")
+    for line in said.splitlines():
+        say(line)
+    return done.stdout
+
+
+class Day:
+    """A day of a house: a journal, or all that was sent to `allocd batch`. A journal of `allocd keep` is read by the program
+    itself, also while it grows; of anything else the bytes are read once."""
+
+    def __init__(self, house, day):
+        self.house, self.day, self.data, self.journal = house, day, content(day), None
+        if not KEPT.match(self.data):
+            self.data = up_to_end(day, self.data)
+        elif os.path.isfile(day):
+            self.journal = day
+        else:
+            self.room = tempfile.NamedTemporaryFile(prefix="allocd-")
+            self.room.write(self.data)
+            self.room.flush()
+            self.journal = self.room.name
+
+    def statement(self, firm=None):
+        """What `allocd statement` says of it, of the whole book or of a firm."""
+        words = [program(), "statement", self.house] + (["--firm", firm] if firm else [])
+        if self.journal:
+            told = run([*words, "--journal", self.journal], self.house, self.day)
+        else:
+            told = run(words, self.house, self.day, self.data)
+        return Statement(called(self.day), told.splitlines())
+
+    def compare(self, answers):
+        """Sees that answers are those of `allocd batch` to this input."""
+        if run([program(), "batch", self.house], self.house, self.day, self.data) != content(answers):
+            raise Fault(f"{called(answers)} isn't what answers {called(self.day)}")
+
+
+def statements_in(path):
+    """The statements in a file of their lines, one behind the other."""
+    found, name = [], called(path)
+    for line in content(path).splitlines():
+        if not found or KIND.search(line) and KIND.search(line)[1] == b"book":
+            found.append([])
+        found[-1].append(line)
+    return [Statement(name, lines) for lines in found]
+
+
+def statement_of(house, day=None, firm=None, answers=None):
+    """What a tool draws: the statement of a day; without a day, that in the file `house`, of the firm where one is named."""
+    if day:
+        it = Day(house, day)
+        if answers:
+            it.compare(answers)
+        return it.statement(firm)
+    found = [it for it in statements_in(house) if firm in (None, it.firm)]
+    if not found:
+        raise Fault(f"{called(house)}: there is no statement in it" + (f" of {firm}" if firm else ""))
+    return found[0]
