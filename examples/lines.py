@@ -7,16 +7,27 @@ import json
 import os
 import re
 import subprocess
+import sys
 import tempfile
 
 from tool import Fault, called, content, say
 
 TOP = os.path.dirname(os.path.dirname(os.path.abspath(__file__)))
 FORM = 1  # of the statements that are read
-KIND = re.compile(rb'"kind":\s*"([a-z]+)"')
+KIND = re.compile(rb'"kind":"([a-z]+)"')
 HEAD, TRAILER = b"8=FIXT.1.1\x019=", re.compile(rb"\x0110=\d{3}\x01")  # of a frame
 KEPT = re.compile(rb"8=FIXT\.1\.1\x019=\d+\x0135=A\x01[^\0]{0,300}?\x011408=allocd-journal-")  # the front of `keep`'s journal
 OF_HOUSE = re.compile("house |cannot read house|no firm")  # how a fault of the house file begins, or of what it hasn't
+COUNTS = {"lots", "fee", "long", "short", "paid", "received", "used", "limit"}
+TRACED = {
+    "node": re.compile(
+        r"(?P<indent>(?:  )*)(?P<name>\d+\.\d+) (?P<lots>\d+) (?P<firm>\S+?)/(?P<account>\S+) "
+        r"(?P<state>held|offered|claimed|refused|cancelled)(?: (?:to|from|by|for) (?P<other>\S+))?(?: fee (?P<fee>\d+))?"
+    ),
+    "position": re.compile(r"position (?P<firm>\S+?)/(?P<account>\S+) (?P<instrument>\S+) long (?P<long>\d+) short (?P<short>\d+)"),
+    "balance": re.compile(r"fees (?P<firm>\S+) paid (?P<paid>\d+) received (?P<received>\d+)"),
+    "agreement": re.compile(r"agreement (?P<giver>\S+) (?P<taker>\S+) used (?P<used>\d+) limit (?P<limit>\d+)"),
+}
 SHOWN_PARTS = 4  # of a split, in words
 ABOUT = {"initiate": "Consent to reverse", "decline": "Decline to reverse", "reverse": "Reverse"}
 
@@ -26,15 +37,15 @@ class Statement:
 
     def __init__(self, name, lines):
         self.name, self.raw, self.parsed = name, {}, {}
-        for line in lines:
-            kind = KIND.search(line)
-            self.raw.setdefault(kind and kind[1].decode(), []).append(line)
-        book = self.of("book")
-        if len(book) != 1 or None in self.raw or not KIND.search(lines[0])[1] == b"book":
-            raise Fault(f"{name} isn't the lines of a statement")
-        self.book, self.firm = book[0], book[0].get("firm")
-        if self.book.get("form") != FORM:
-            raise Fault(f"{name}: a statement of the form {self.book.get('form')}, and not {FORM}")
+        try:
+            for line in lines:
+                self.raw.setdefault(KIND.search(line)[1].decode(), []).append(line)
+            [self.book] = self.of("book")
+            self.firm, form = self.book.get("firm"), self.book["form"]
+        except (TypeError, ValueError, KeyError):
+            raise Fault(f"{name} isn't the lines of a statement") from None
+        if form != FORM:
+            raise Fault(f"{name}: a statement of the form {form}, and not {FORM}")
 
     def of(self, kind):
         """The lines of a kind, each a dict, in their order."""
@@ -53,13 +64,48 @@ class Statement:
         """The firms, the house first; of a firm's statement that one."""
         return [it["firm"] for it in self.of("balance")]
 
+    def last(self):
+        """The number of the last entry, 0 where there is none."""
+        return json.loads(self.raw.get("entry", [b'{"number":0}'])[-1])["number"]
+
     def what(self, entry):
         """What an entry does, in words."""
         return f"{ABOUT[entry['command']]} {entry['change']}" if "change" in entry else WORDS[entry["command"]](self, entry)
 
 
-def trade(_, it):
-    place = f"{it['owner']}/{it['account']}" if "account" in it else it["owner"]
+class Traced(Statement):
+    """What `allocd trace` writes, read from standard input: nodes, positions, balances and agreements, in the words of a
+    statement. The first `/` in FIRM/ACCOUNT ends the firm's name."""
+
+    def __init__(self):
+        if sys.stdin.isatty():
+            raise Fault("a trace is read from standard input, and this is a terminal: name HOUSE and DAY, or see --help")
+        self.name, self.firm, self.raw, self.parsed = called("-"), None, {}, {kind: [] for kind in TRACED}
+        for number, line in enumerate(content("-").decode("latin-1").splitlines(), 1):
+            found = next(((kind, it) for kind, words in TRACED.items() if (it := words.fullmatch(line))), None)
+            if not found:
+                raise Fault(f"{self.name}: line {number} isn't one of a trace: {line[:60]!r}")
+            it = {name: int(text) if name in COUNTS else text for name, text in found[1].groupdict().items() if text is not None}
+            self.parsed[found[0]].append(it)
+        self.place_nodes(self.of("node"))
+
+    def place_nodes(self, nodes):
+        """Says of each node what its place and its words tell."""
+        above = []
+        for it, after in zip(nodes, nodes[1:] + [{"indent": ""}]):
+            it["depth"] = len(it["indent"]) // 2
+            it["leaf"] = len(after["indent"]) // 2 <= it["depth"]
+            del above[it["depth"] :]
+            above.append(it["name"])
+            it["trade"] = int(above[0].split(".")[0])
+            it.update({"parent": above[-2]} if it["depth"] else {})
+            if "other" in it:
+                pair = (it["other"], it["firm"]) if it["state"] == "claimed" else (it["firm"], it["other"])
+                it["giver"], it["taker"] = pair
+
+
+def trade(statement, it):
+    place = f"{it['owner']}/{it['account']}" if statement.sees(it["owner"]) else it["owner"]
     return f"{'Bought' if it['side'] == 'buy' else 'Sold'} {it['lots']} {it['instrument']} for {place}"
 
 
@@ -85,6 +131,11 @@ WORDS = {
 def shortened(parts):
     more = f" and {len(parts) - SHOWN_PARTS} more" if len(parts) > SHOWN_PARTS else ""
     return ", ".join(parts[:SHOWN_PARTS]) + more
+
+
+def place(node):
+    """Firm and account where a node stands. Where that isn't the statement's own firm, its account isn't told."""
+    return node.get("firm") or node["taker" if node["state"] == "claimed" else "giver"], node.get("account", "")
 
 
 def money(hundredths):
@@ -136,7 +187,7 @@ class Day:
     """A day of a house: a journal, or all that was sent to `allocd batch`. A journal of `allocd keep` is read by the program
     itself, also while it grows; of anything else the bytes are read once."""
 
-    def __init__(self, house, day):
+    def __init__(self, house, day, answers=None):
         self.house, self.day, self.data, self.journal = house, day, content(day), None
         if not KEPT.match(self.data):
             self.data = up_to_end(day, self.data)
@@ -147,6 +198,8 @@ class Day:
             self.room.write(self.data)
             self.room.flush()
             self.journal = self.room.name
+        if answers:
+            self.compare(answers)
 
     def statement(self, firm=None):
         """What `allocd statement` says of it, of the whole book or of a firm."""
@@ -165,22 +218,32 @@ class Day:
 
 def statements_in(path):
     """The statements in a file of their lines, one behind the other."""
-    found, name = [], called(path)
+    found = []
     for line in content(path).splitlines():
-        if not found or KIND.search(line) and KIND.search(line)[1] == b"book":
+        if not found or b'"kind":"book"' in line:
             found.append([])
         found[-1].append(line)
-    return [Statement(name, lines) for lines in found]
+    if not found:
+        raise Fault(f"{called(path)}: there is no statement in it")
+    return [Statement(called(path), lines) for lines in found]
+
+
+def statements_of(house, day=None, answers=None):
+    """The statement of the whole book of a day, and after it those of its firms; without a day those in the file `house`."""
+    if not day:
+        yield from statements_in(house)
+    else:
+        it = Day(house, day, answers)
+        whole = it.statement()
+        yield whole
+        yield from map(it.statement, whole.firms())
 
 
 def statement_of(house, day=None, firm=None, answers=None):
-    """What a tool draws: the statement of a day; without a day, that in the file `house`, of the firm where one is named."""
+    """The statement of a day, of the whole book or of a firm; without a day the first of these in the file `house`."""
     if day:
-        it = Day(house, day)
-        if answers:
-            it.compare(answers)
-        return it.statement(firm)
+        return Day(house, day, answers).statement(firm)
     found = [it for it in statements_in(house) if firm in (None, it.firm)]
     if not found:
-        raise Fault(f"{called(house)}: there is no statement in it" + (f" of {firm}" if firm else ""))
+        raise Fault(f"{called(house)}: there is no statement of {firm} in it")
     return found[0]
