@@ -10,7 +10,7 @@ import sys
 
 TOP = os.path.dirname(os.path.dirname(os.path.abspath(__file__)))
 sys.dont_write_bytecode = True
-sys.path.insert(0, f"{TOP}/examples")
+sys.path[:0] = [f"{TOP}/checks/model", f"{TOP}/examples"]
 from book import Book, House
 from fix import framed
 from journal import firsts, frames, number_of

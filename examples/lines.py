@@ -16,7 +16,7 @@ TOP = os.path.dirname(os.path.dirname(os.path.abspath(__file__)))
 FORM = 1  # of the statements that are read
 KIND = re.compile(rb'"kind":"([a-z]+)"')
 HEAD, TRAILER = b"8=FIXT.1.1\x019=", re.compile(rb"\x0110=\d{3}\x01")  # of a frame
-KEPT = re.compile(rb"8=FIXT\.1\.1\x019=\d+\x0135=A\x01[^\0]{0,300}?\x011408=allocd-journal-")  # the front of `keep`'s journal
+KEPT = re.compile(rb"8=FIXT.{0,400}\x011408=allocd-journal-", re.DOTALL)  # the front of a journal of `allocd keep`
 OF_HOUSE = re.compile("house |cannot read house|no firm")  # how a fault of the house file begins, or of what it hasn't
 COUNTS = {"lots", "fee", "long", "short", "paid", "received", "used", "limit"}
 TRACED = {
@@ -46,6 +46,8 @@ class Statement:
             raise Fault(f"{name} isn't the lines of a statement") from None
         if form != FORM:
             raise Fault(f"{name}: a statement of the form {form}, and not {FORM}")
+        if any(len(self.raw.get(kind, [])) != self.book[count] for kind, count in (("entry", "entries"), ("hop", "hops"))):
+            raise Fault(f"{name}: a statement that isn't whole")
 
     def of(self, kind):
         """The lines of a kind, each a dict, in their order."""
@@ -165,55 +167,41 @@ def up_to_end(day, data):
     return data
 
 
-def run(words, house, day, given=None):
-    """What the program writes. Its fault names the file that it is of."""
-    try:
-        done = subprocess.run(words, input=given, stdin=None if given is not None else subprocess.DEVNULL, capture_output=True)
-    except OSError as fault:
-        raise Fault(f"{words[0]}: {fault.strerror}") from None
-    said = done.stderr.decode(errors="replace").strip()
-    if done.returncode:
-        last = said.splitlines()[-1] if said else f"{words[0]} ended with {done.returncode}"
-        where = house if OF_HOUSE.match(last) else called(day)
-        if "--journal" in words:
-            last = last.removeprefix(f"{words[-1]}: ")
-        raise Fault(f"{where}: {last.removeprefix('house ')}")
-    for line in said.splitlines():
-        say(line)
-    return done.stdout
-
-
 class Day:
-    """A day of a house: a journal, or all that was sent to `allocd batch`. A journal of `allocd keep` is read by the program
-    itself, also while it grows; of anything else the bytes are read once."""
+    """A day of a house: a journal, or what was sent to `allocd batch`. A journal of `allocd keep` is read by the program itself,
+    also while it grows; of anything else the bytes are read once."""
 
     def __init__(self, house, day, answers=None):
-        self.house, self.day, self.data, self.journal = house, day, content(day), None
-        if not KEPT.match(self.data):
-            self.data = up_to_end(day, self.data)
-        elif os.path.isfile(day):
-            self.journal = day
-        else:
-            self.room = tempfile.NamedTemporaryFile(prefix="allocd-")
-            self.room.write(self.data)
-            self.room.flush()
-            self.journal = self.room.name
-        if answers:
-            self.compare(answers)
+        self.house, self.day, data = house, day, content(day)
+        is_kept = KEPT.match(data)
+        # (a file, since a pipe would end the tool where the program ends before it has read all)
+        self.file = tempfile.NamedTemporaryFile(prefix="allocd-")
+        self.file.write(data if is_kept else up_to_end(day, data))
+        self.file.flush()
+        self.journal = is_kept and (day if os.path.isfile(day) else self.file.name)
+        if answers and self.run("batch") != content(answers):
+            raise Fault(f"{called(answers)} isn't what answers {called(day)}")
 
     def statement(self, firm=None):
         """What `allocd statement` says of it, of the whole book or of a firm."""
-        words = [program(), "statement", self.house] + (["--firm", firm] if firm else [])
-        if self.journal:
-            told = run([*words, "--journal", self.journal], self.house, self.day)
-        else:
-            told = run(words, self.house, self.day, self.data)
-        return Statement(called(self.day), told.splitlines())
+        more = (["--firm", firm] if firm else []) + (["--journal", self.journal] if self.journal else [])
+        return Statement(called(self.day), self.run("statement", *more).splitlines())
 
-    def compare(self, answers):
-        """Sees that answers are those of `allocd batch` to this input."""
-        if run([program(), "batch", self.house], self.house, self.day, self.data) != content(answers):
-            raise Fault(f"{called(answers)} isn't what answers {called(self.day)}")
+    def run(self, word, *more):
+        """What the program writes. Its fault names the file that it is of."""
+        self.file.seek(0)
+        words = [program(), word, self.house, *more]
+        try:
+            done = subprocess.run(words, stdin=self.file, stdout=subprocess.PIPE, stderr=subprocess.PIPE)
+        except OSError as fault:
+            raise Fault(f"{words[0]}: {fault.strerror}") from None
+        said = done.stderr.decode(errors="replace").replace(self.file.name, called(self.day)).splitlines()
+        if done.returncode:
+            last = (said or [f"{words[0]} ended with {done.returncode}"])[-1].removeprefix(f"{called(self.day)}: ")
+            raise Fault(f"{self.house if OF_HOUSE.match(last) else called(self.day)}: {last.removeprefix('house ')}")
+        for line in said:
+            say(line)
+        return done.stdout
 
 
 def statements_in(path):

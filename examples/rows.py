@@ -1,11 +1,9 @@
-"""The rows of CSV of what is seen of a day: what examples/table and examples/statements write."""
+"""The rows of CSV of a statement: what examples/table and examples/statements write."""
 import csv
 import io
 import re
 
-from journal import NoJournal
-from opening import opened
-from view import money
+from lines import money, place
 
 COLUMNS = {
     "nodes": "trade id sent instrument side node entry part parent depth leaf lots firm account state giver taker fee",
@@ -18,94 +16,83 @@ COLUMNS = {
     "control": "firm trades entries last long short hops paid received",
 }
 CARRIED = "opening_long opening_short day_long day_short"
-OF_TRADE = ("nodes", "fees", "offers", "history")
 STRANGERS = {"id", "instrument", "firm", "account", "giver", "taker"}
 FORMULA = re.compile("'*[=+@-]")
 
 
-def position(firm, account, instrument, long, short):
-    return [firm, account, instrument, long, short, long - short]
+def picked(line, names):
+    """Members of a line, in these words; what isn't there is empty."""
+    return [line.get(name, "") for name in names.split()]
 
 
-def balance(firm, paid, received):
-    return [firm, money(paid), money(received), money(received - paid)]
+def cost(line, *names):
+    return [money(line[name]) if name in line else "" for name in names]
 
 
-TOTAL_ROW = {"positions": position, "balances": balance, "agreements": lambda *words: list(words)}
+def by_name(lines, name):
+    return {line[name]: line for line in lines}
 
 
-def node_row(deal, name, parent, depth, leaf, lots, place, state, giver, taker, fee):
-    where = [name, *name.split("."), parent, depth, "yes" if leaf else "no"]
-    paid = money(fee) if state == "claimed" else ""
-    return [*deal, *where, lots, *place, state, giver, taker, paid]
+def nodes(statement):
+    made = by_name(statement.of("entry"), "number")
+    for it in statement.of("node"):
+        deal = [it.get("trade", ""), *picked(made.get(it.get("trade"), {}), "id time"), *picked(it, "instrument side")]
+        where = [it["name"], *it["name"].split("."), it.get("parent", ""), it["depth"], "yes" if it["leaf"] else "no"]
+        yield [*deal, *where, it["lots"], *place(it), *picked(it, "state giver taker"), *cost(it, "fee")]
 
 
-class Day:
-    """The rows of a day, of what a firm sees of it, or of one trade."""
+def positions(statement, opening=None):
+    if opening:
+        for where, total, before, day in opening.of(statement):
+            yield [*where, *total, total[0] - total[1], *before, *day]
+    else:
+        for it in statement.of("position"):
+            yield [*picked(it, "firm account instrument long short"), it["long"] - it["short"]]
 
-    def __init__(self, view, trade, opening):
-        self.view, self.book, self.trade, self.opening = view, view.book, trade, opening
-        roots = {root.trade for root in self.book.trades() if view.of(root.firm)}
-        if trade and trade not in roots:
-            raise NoJournal(f"no live trade {trade}" + (f" of {view.firm}" if view.firm else ""))
 
-    def is_asked(self, node):
-        return self.trade in (None, self.view.trade_of(node))
+def balances(statement):
+    for it in statement.of("balance"):
+        if it["paid"] or it["received"]:
+            yield [it["firm"], *cost(it, "paid", "received"), money(it["received"] - it["paid"])]
 
-    def nodes(self):
-        tops = [top for top in self.view.pieces() if self.view.is_live(top)]
-        for top in sorted(tops, key=lambda top: (top.made_by, int(top.name.split(".")[1]))):
-            if self.is_asked(top):
-                for depth, node in self.view.rows(top):
-                    yield self.node(top, depth, node)
 
-    def node(self, top, depth, node):
-        trade = self.book.deal(top)
-        deal = ["", "", ""] if top.parent else [trade.number, self.view.id(trade), trade.sent]
-        pair = (node.firm, node.taker) if node.taker else ("", "")
-        parent, leaf = node.parent.name if depth else "", not self.view.parts(node)
-        deal += trade.detail[2:4]
-        fee = self.book.fee(node)
-        return node_row(deal, node.name, parent, depth, leaf, node.lots, self.view.place(node), node.state, *pair, fee)
+def agreements(statement):
+    return (picked(it, "giver taker used limit") for it in statement.of("agreement") if it["used"])
 
-    def positions(self):
-        if self.opening is None:
-            return [position(*place, *sums) for place, sums in self.view.positions().items()]
-        return [[*position(*place, *total), *before, *day] for place, total, before, day in opened(self.view, self.opening)]
 
-    def balances(self):
-        return [balance(firm, *sums) for firm, sums in self.view.fees().items()]
+def fees(statement):
+    made, of = by_name(statement.of("entry"), "number"), by_name(statement.of("node"), "name")
+    for it in sorted(statement.of("hop"), key=lambda it: [int(number) for number in it["node"].split(".")]):
+        deal = [*picked(it, "entry"), *picked(made[it["entry"]], "time"), *picked(of[it["node"]], "instrument side")]
+        yield [it["node"], *picked(of[it["node"]], "trade"), *deal, *picked(it, "giver taker lots"), *cost(it, "rate", "fee")]
 
-    def agreements(self):
-        return [[*pair, terms.used, terms.limit] for pair, terms in self.view.terms().items() if terms.claims()]
 
-    def fees(self):
-        for node in self.view.hops():
-            if self.is_asked(node):
-                deal, claim = self.book.deal(node).detail[2:4], node.decision
-                rate, fee = money(self.book.rate(node)), money(self.book.fee(node))
-                made = [node.name, self.view.trade_of(node) or "", claim.number, claim.sent]
-                yield [*made, *deal, node.firm, node.taker, node.lots, rate, fee]
+def offers(statement):
+    of = by_name(statement.of("node"), "name")
+    for it in statement.of("offer"):
+        deal = [*picked(of[it["node"]], "trade"), *picked(it, "since"), *picked(of[it["node"]], "instrument side")]
+        claim = it.get("refusal", "0 yes").partition(" ")[2]
+        yield [it["node"], *deal, *picked(it, "giver taker lots"), *cost(it, "rate", "fee"), claim]
 
-    def offers(self):
-        for node in self.view.offers():
-            if self.is_asked(node):
-                deal, since = self.book.deal(node).detail[2:4], self.book.entry(node.made_by).sent
-                rate, wrong = self.view.rate_of_claim(node)
-                cost = ["", ""] if rate is None else [money(rate), money(rate * node.lots)]
-                made = [node.name, self.view.trade_of(node) or "", since]
-                yield [*made, *deal, node.firm, node.taker, node.lots, *cost, wrong or "yes"]
 
-    def history(self):
-        for entry in self.view.entries():
-            trade = next(map(self.view.trade_of, self.view.tops(entry)), 0)
-            if self.trade in (None, trade):
-                made = [entry.number, entry.sent, entry.firm, self.view.id(entry), trade or ""]
-                yield [*made, self.view.what(entry), entry.undone_by or ""]
+def history(statement):
+    """The entries. The trade of one is that of the tree which it made or changed, or of the change that it is about."""
+    trades = {}  # of entries and nodes; a part that another firm gave is of none that is seen
+    for it in statement.of("entry"):
+        number, trade = it["number"], trades.get(it.get("change", it.get("node")), "")
+        if it["command"] == "trade" and statement.sees(it["owner"]):
+            trade = trades[f"{number}.0"] = number
+        elif "parts" in it and not statement.sees(it["firm"]):
+            trade = ""
+        trades[number] = trade
+        trades.update((part["name"], trade) for part in it.get("parts", ()))
+        yield [number, *picked(it, "time firm id"), trade, statement.what(it), *picked(it, "reversed_by")]
 
-    def control(self):
-        for *numbers, paid, received in self.view.controls():
-            yield [*numbers, money(paid), money(received)]
+
+def control(*statements):
+    for it in statements:
+        of = it.book
+        yield [*picked(of, "firm trades entries"), it.last(), *picked(of, "long short hops"), *cost(of, "paid", "received")]
 
 
 def guarded(column, value):
@@ -113,12 +100,13 @@ def guarded(column, value):
     return "'" + value if column in STRANGERS and FORMULA.match(value) else value
 
 
-def csv_of(of, rows, is_carried=False, plain=False):
-    """CSV of such rows, with a line that names its columns."""
+def csv_of(of, rows, trade=None, is_carried=False, plain=False):
+    """CSV of such rows, of one trade where that is given, with a line that names its columns."""
     columns = (COLUMNS[of] + (f" {CARRIED}" if is_carried else "")).split()
     text = io.StringIO()
     to = csv.writer(text, lineterminator="\n")
     to.writerow(columns)
     for row in rows:
-        to.writerow(row if plain else map(guarded, columns, row))
+        if not trade or row[columns.index("trade")] == trade:
+            to.writerow(row if plain else map(guarded, columns, row))
     return text.getvalue()

@@ -1,4 +1,4 @@
-"""The accepted commands of a day, read from its journal: what examples/book.py stands on.
+"""The accepted commands of a day, read from its journal: what the tests' book stands on.
 
 A journal is a stream of FIX frames with accepted commands alone, in their order, so its n-th command is entry n, counted
 after the agreements of a house file of version 2. It ends at its first zero; what follows that is the rest of a group

@@ -1,6 +1,5 @@
-"""The book of a day, built anew from its accepted commands: what examples/table, page and picture stand on.
-
-It has the rules of docs/book.md, so that a day's input which is taken for a journal is told by its first refused command.
+"""The book of a day, built anew from its accepted commands: the tests' own, with the rules of docs/book.md, which the program
+is compared with. No tool stands on it.
 """
 import re
 from hashlib import sha256
@@ -227,12 +226,6 @@ class Book:
     def fee(self, node):
         """The hundredths of a claimed node."""
         return node.lots * self.rate(node) if node.state == "claimed" else 0
-
-    def words(self, node):
-        """The words of a trace for the state of a node."""
-        kept = {"held": "held", "offered": f"offered to {node.taker}", "refused": f"refused by {node.taker}"}
-        given = {"cancelled": f"cancelled for {node.taker}", "claimed": f"claimed from {node.firm} fee {self.fee(node)}"}
-        return (kept | given)[node.state]
 
     def change(self, entry):
         """The change that an entry is, or whose reversal it is about."""

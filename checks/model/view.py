@@ -1,18 +1,10 @@
-"""What one firm may see of a book, or all of it where no firm is named: what examples/table and page show.
+"""What one firm may see of a book, or all of it where no firm is named.
 
 A firm sees its own trades and splits, what it gives up and what it is given, and the entries that concern it. Of what
 others do with lots that it gave up, of their accounts and their ids, it sees nothing.
 """
 from journal import NoJournal
 from tool import called
-
-SHOWN_PARTS = 4  # of a split, in a line of history
-ABOUT = {"initiate": "Consent to reverse", "decline": "Decline to reverse", "reverse": "Reverse"}
-
-
-def money(hundredths):
-    return f"{'-' if hundredths < 0 else ''}{abs(hundredths) // 100}.{abs(hundredths) % 100:02}"
-
 
 class View:
     def __init__(self, book, firm=None, house="the house file"):
@@ -90,6 +82,13 @@ class View:
             yield depth, node
             waiting.extend((depth + 1, part) for part in reversed(self.parts(node)))
 
+    def nodes(self):
+        """The nodes of live trees, each with its top and its depth below that."""
+        tops = [top for top in self.pieces() if self.is_live(top)]
+        for top in sorted(tops, key=lambda top: [int(number) for number in top.name.split(".")]):
+            for depth, node in self.rows(top):
+                yield top, depth, node
+
     def place(self, node):
         """Firm and account where a node stands, or of one that was undone those of its giver or trade; another firm's
         account isn't told."""
@@ -148,45 +147,7 @@ class View:
             add(sums, ["", firm], 7, received)
         return sums
 
-    def what(self, entry):
-        """What an entry does, in words."""
-        if entry.kind in ABOUT:
-            return f"{ABOUT[entry.kind]} {entry.names}"
-        return getattr(self, "_" + entry.kind)(entry)
-
-    def _trade(self, entry):
-        firm, account, instrument, side, lots = entry.detail
-        of = f"{firm}/{account}" if self.of(firm) else firm
-        return f"{'Bought' if side == 'buy' else 'Sold'} {lots} {instrument} for {of}"
-
-    def _split(self, entry):
-        if not self.of(entry.firm):
-            parts = [f"{part.lots} lots as {part.name}" for part in entry.parts if part.taker == self.firm]
-            return f"Offer {shortened(parts)} to {self.firm}"
-        parts = [f"{lots} to {taker}" if taker else f"{lots} {account}" for lots, taker, account in entry.detail]
-        return f"Split {entry.names} into {shortened(parts)}"
-
-    def _claim(self, entry):
-        return f"Claim {entry.names}" + (f" into {entry.detail}" if self.of(entry.firm) else "")
-
-    def _refuse(self, entry):
-        return f"{entry.kind.capitalize()} {entry.names}"
-
-    _cancel = _refuse
-
-    def _agree(self, entry):
-        giver, taker, rate, limit = entry.detail
-        return f"{taker} may take {limit} lots of {giver} at {money(rate)}"
-
-    def _raise(self, entry):
-        return f"Raise the limit with {entry.detail[0]} by {entry.detail[1]}"
-
 
 def add(sums, firms, column, amount=1):
     for firm in firms:
         sums[firm][column] += amount
-
-
-def shortened(parts):
-    more = f" and {len(parts) - SHOWN_PARTS} more" if len(parts) > SHOWN_PARTS else ""
-    return ", ".join(parts[:SHOWN_PARTS]) + more
