@@ -42,12 +42,11 @@ class Statement:
                 self.raw.setdefault(KIND.search(line)[1].decode(), []).append(line)
             [self.book] = self.of("book")
             self.firm, form = self.book.get("firm"), self.book["form"]
+            is_whole = all(len(self.raw.get(kind, [])) == self.book[it] for kind, it in (("entry", "entries"), ("hop", "hops")))
         except (TypeError, ValueError, KeyError):
             raise Fault(f"{name} isn't the lines of a statement") from None
-        if form != FORM:
-            raise Fault(f"{name}: a statement of the form {form}, and not {FORM}")
-        if any(len(self.raw.get(kind, [])) != self.book[count] for kind, count in (("entry", "entries"), ("hop", "hops"))):
-            raise Fault(f"{name}: a statement that isn't whole")
+        if form != FORM or not is_whole:
+            raise Fault(f"{name}: a statement " + ("that isn't whole" if form == FORM else f"of the form {form}, and not {FORM}"))
 
     def of(self, kind):
         """The lines of a kind, each a dict, in their order."""
@@ -158,8 +157,7 @@ def up_to_end(day, data):
     data, _, behind = data.partition(b"\0")
     if behind.strip(b"\0"):
         say(f"{called(day)}: what stands behind the zero at byte {len(data)} is left out")
-    last = data.rfind(b"\x0110=")
-    end = last + 8 if TRAILER.fullmatch(data, last, last + 8) else 0
+    end = max((it.end() for it in TRAILER.finditer(data)), default=0)
     rest = data[end:]
     if rest and (HEAD.startswith(rest) or rest.startswith(HEAD)):
         say(f"{called(day)}: the last frame, at byte {end}, isn't whole, and is left out")
