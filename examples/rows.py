@@ -89,10 +89,9 @@ def history(statement):
         yield [number, *picked(it, "time firm id"), trade, statement.what(it), *picked(it, "reversed_by")]
 
 
-def control(*statements):
-    for it in statements:
-        of = it.book
-        yield [*picked(of, "firm trades entries"), it.last(), *picked(of, "long short hops"), *cost(of, "paid", "received")]
+def control(statement):
+    it = statement.book
+    yield [*picked(it, "firm trades entries"), statement.last(), *picked(it, "long short hops"), *cost(it, "paid", "received")]
 
 
 def guarded(column, value):
