@@ -1,4 +1,4 @@
-"""The HTML of a day: what examples/page shows of a view, put into its frame, page.html."""
+"""The HTML of a statement: its lines, put into the frame of examples/page, page.html, whose script draws them."""
 import base64
 import hashlib
 import html
@@ -7,99 +7,53 @@ import os
 import re
 from datetime import datetime, timezone
 
-from opening import opened
-
 FRAME = os.path.join(os.path.dirname(os.path.abspath(__file__)), "page.html")
+KINDS = "entry refused node position balance hop agreement offer reversal".split()
+EXACT = 2**53  # a script's numbers are exact below; those that are larger are put as text
 
 
-def node_of(view, depth, node):
-    """A node of a tree; after its state the firm on the other side of its hop, the number of its decision and its fee."""
-    shown = [depth, node.name, node.lots, *view.place(node), node.state]
-    if node.taker:
-        shown += [node.firm if node.state == "claimed" else node.taker, node.decision.number if node.decision else 0]
-        shown += [str(view.book.fee(node))] if node.state == "claimed" else []
-    return shown
+def packed(lines):
+    """Lines, compact. Those that have the same members are a table: members, how many lines, and a column for each member;
+    beside the tables stands of each line which of them has it, or 0 where one has all."""
+    tables, order = {}, []
+    for line in lines:
+        number, rows = tables.setdefault(tuple(line), (len(tables), []))
+        order.append(number)
+        rows.append(line)
+    columns = {names: [column([row[name] for row in rows]) for name in names] for names, (_, rows) in tables.items()}
+    return [[[names, len(tables[names][1]), it] for names, it in columns.items()], order if len(tables) > 1 else 0]
 
 
-def line_of(view, entry):
-    """A line of history."""
-    line = [entry.number, entry.sent, entry.firm, view.id(entry), view.what(entry)]
-    return line + [entry.undone_by] if entry.undone_by else line
+def column(values):
+    """A member of some lines: `rows` of lists of objects, with how long each list is; what is the `same` in all; `steps` from
+    number to number; the `words` that there are, and which stands where; or the values."""
+    first = values[0]
+    if isinstance(first, list):
+        rows = [it for value in values for it in value]
+        if not all(isinstance(it, dict) for it in rows):
+            return values
+        return {"rows": packed(rows), "lengths": column([len(value) for value in values])}
+    values = [str(it) if type(it) is int and abs(it) >= EXACT else it for it in values]
+    words = dict.fromkeys(values)
+    if len(words) == 1:
+        return {"same": values[0]}
+    if all(type(it) is int for it in values):
+        return {"steps": [it - before for it, before in zip(values, [0, *values])]}
+    if 2 * len(words) > len(values):
+        return values
+    places = {word: n for n, word in enumerate(words)}
+    return {"words": list(words), "places": [places[it] for it in values]}
 
 
-def key(top):
-    """What a tree is found by: its trade, or the part with which begins what is seen of it."""
-    return top.name if top.parent else top.trade
-
-
-def trees_of(view):
-    """The trees, also of what was reversed: what was traded or given, its reversal, the nodes, the entries about it."""
-    for top, log in view.pieces().items():
-        _, _, instrument, side, _ = view.book.deal(top).detail
-        made = view.book.entry(top.made_by)
-        id = "" if top.parent else view.id(made)
-        nodes = [node_of(view, *row) for row in view.rows(top)] if view.is_live(top) else []
-        deal = [key(top), id, made.sent, instrument, side, top.lots, *view.place(top), made.undone_by]
-        yield [*deal, nodes, [line_of(view, entry) for entry in log]]
-
-
-def offers_of(view):
-    for node in view.offers():
-        _, _, instrument, side, _ = view.book.deal(node).detail
-        since = view.book.entry(node.made_by).sent
-        yield [node.name, key(view.top(node)), since, node.firm, node.taker, side, node.lots, instrument]
-
-
-def consents_of(view):
-    """The changes to whose reversal a consent stands: who gave it, who hasn't, the first entry that stands on it, and whom
-    it concerns."""
-    book = view.book
-    for number, firms in book.consents.items():
-        change = book.entry(number)
-        concerned = [firm for firm in dict.fromkeys(view.concerned(change)) if view.of(firm)]
-        if concerned:
-            tree = next(map(key, view.tops(change)), 0)
-            missing = [firm for firm in book.parties(change) if firm not in firms]
-            yield [number, tree, view.what(change), firms, missing, book.standing_on(change), concerned]
-
-
-def agreed_of(view):
-    """The entries of agreements, which stand in no tree."""
-    for entry in view.entries():
-        if not entry.trade:
-            made = [entry.number, entry.sent, entry.firm, view.id(entry), view.what(entry)]
-            yield [*made, entry.undone_by, list(dict.fromkeys(view.concerned(entry)))]
-
-
-def positions_of(view, carried):
-    if carried is None:
-        return [[*place, *sums] for place, sums in view.positions().items()]
-    return [[*place, *now, before[0] - before[1]] for place, now, before, _ in opened(view, carried)]
-
-
-def shown(view, day, carried, mark):
-    """All that the page shows."""
-    book, firm = view.book, view.firm
-    entries = list(view.entries())
-    fees = view.fees().items()
-    terms = view.terms().items()
+def shown(statement, day, carried, mark):
+    """What the page's script draws. Positions that are carried are those of the day before, by firm, account and instrument."""
     return {
-        "house": book.house.name,
-        "firm": firm or "",
-        "firms": [firm] if firm else book.house.firms,
         "day": os.path.basename(day),
         "made": datetime.now(timezone.utc).strftime("%Y-%m-%d %H:%M:%S UTC"),
         "mark": mark,
-        "last": entries[-1].sent if entries else "",
-        "controls": [[*row[:7], *map(str, row[7:])] for row in view.controls()],
-        "carried": carried is not None,
-        "positions": positions_of(view, carried),
-        "fees": [[name, str(paid), str(received), str(received - paid)] for name, (paid, received) in fees],
-        "agreements": [[*pair, it.rate, it.limit, len(it.claims()), it.used, str(it.used * it.rate)] for pair, it in terms],
-        "offers": list(offers_of(view)),
-        "consents": list(consents_of(view)),
-        "agreed": list(agreed_of(view)),
-        "trades": list(trees_of(view)),
+        "book": packed([statement.book]),
+        "lines": {kind: packed(statement.of(kind)) for kind in KINDS},
+        "carried": carried and [[*place, *lots] for place, lots in carried.items() if statement.sees(place[0])],
     }
 
 
@@ -107,7 +61,7 @@ def digest(text):
     return "'sha256-" + base64.b64encode(hashlib.sha256(text.encode()).digest()).decode() + "'"
 
 
-def page(view, day, carried=None, mark=""):
+def page(statement, day, carried=None, mark=""):
     """The page. Its data has no `<`, so nothing in it ends or begins an element. A page that is served has a mark, by which
     it sees whether there is a newer one."""
     with open(FRAME, encoding="utf-8") as file:
@@ -116,10 +70,11 @@ def page(view, day, carried=None, mark=""):
     script = re.search('<script type="module">(.*?)</script>', frame, re.DOTALL)[1]
     policy = ["default-src 'none'", "base-uri 'none'", "form-action 'none'"]
     policy += [f"style-src {digest(style)}", f"script-src {digest(script)}"] + ["connect-src 'self'"] * bool(mark)
+    whose = f"statement of {statement.firm}" if statement.firm else "the day"
     filled = {
         "POLICY": "; ".join(policy),
-        "TITLE": html.escape(f"{view.book.house.name}: " + (f"statement of {view.firm}" if view.firm else "the day")),
-        "DAY": json.dumps(shown(view, day, carried, mark), separators=(",", ":")).replace("<", "\\u003c"),
+        "TITLE": html.escape(f"{statement.book['house']}: {whose}"),
+        "DAY": json.dumps(shown(statement, day, carried, mark), separators=(",", ":")).replace("<", "\\u003c"),
     }
     pieces = re.split(r"\{\{(POLICY|TITLE|DAY)\}\}", frame)
     return "".join(filled[piece] if i % 2 else piece for i, piece in enumerate(pieces))
