@@ -12,20 +12,15 @@ from http.server import BaseHTTPRequestHandler
 from tool import Fault, say
 
 SLOW, REST = 1.0, 3  # seconds for a page to be a slow one, and how many times as long it rests before it is loaded anew
-HEADERS = {
-    "Cache-Control": "no-store",
-    "Referrer-Policy": "no-referrer",
-    "X-Content-Type-Options": "nosniff",
-    "X-Frame-Options": "DENY",
-}
+HEADERS = {"Cache-Control": "no-store", "Referrer-Policy": "no-referrer"}
+HEADERS |= {"X-Content-Type-Options": "nosniff", "X-Frame-Options": "DENY"}
 
 
 class Page:
     """The page of some files: made anew when it is asked for and one of them has changed."""
 
     def __init__(self, files, make):
-        self.files, self.make, self.lock, self.kept = files, make, threading.Lock(), (None, b"")
-        self.rests_until = 0.0
+        self.files, self.make, self.lock, self.kept, self.rests_until = files, make, threading.Lock(), (None, b""), 0.0
 
     def mark(self):
         """What changes when a file does."""
@@ -39,8 +34,7 @@ class Page:
     def text(self):
         """Its mark and its bytes."""
         with self.lock:
-            mark = self.mark()
-            if self.kept[0] != mark:
+            if self.kept[0] != (mark := self.mark()):
                 before = time.monotonic()
                 self.kept = mark, self.make(mark).encode()
                 gc.collect()
@@ -49,8 +43,7 @@ class Page:
             return self.kept
 
     def newest(self):
-        """What an open page compares with its own mark. After one that took long this is the same for a while, so that open
-        pages of a large journal that grows leave the processor to others."""
+        """What an open page compares with its own mark: after one that took long the same for a while."""
         mark = self.mark()
         return self.kept[0] if time.monotonic() < self.rests_until else mark
 
@@ -59,10 +52,6 @@ class Server(socketserver.ThreadingTCPServer):
     """A browser that breaks off ends its own request, and not the server."""
 
     allow_reuse_address = daemon_threads = True
-
-    def __init__(self, *given):
-        signal.signal(signal.SIGPIPE, signal.SIG_IGN)
-        super().__init__(*given)
 
     def handle_error(self, request, client_address):
         if not isinstance(sys.exc_info()[1], OSError):
@@ -76,42 +65,34 @@ class Handler(BaseHTTPRequestHandler):
     server_version, sys_version, timeout = "page", "", 30
 
     def do_GET(self):
-        self.answer(lambda page: page.text())
-
-    def do_HEAD(self):
-        self.answer(lambda page: (page.newest(), b""))
-
-    def answer(self, what):
         port = self.server.server_address[1]
         if self.headers.get("Host") not in (f"127.0.0.1:{port}", f"localhost:{port}"):
             return self.send(403, "text/plain", b"this is 127.0.0.1 alone\n")
         if self.path != "/":
             return self.send(404, "text/plain", b"there is one page, at /\n")
         try:
-            mark, text = what(self.server.page)
+            mark, text = self.server.page.text() if self.command == "GET" else (self.server.page.newest(), b"")
         except (Fault, OSError) as fault:
             say(fault)
             return self.send(500, "text/plain", f"{fault}\n".encode(), Refresh="5")
         return self.send(200, "text/html", text, ETag=mark)
 
+    do_HEAD, log_message = do_GET, lambda *_: None
+
     def send(self, status, kind, text, **more):
         self.send_response(status)
+        more |= {"Content-Length": str(len(text))} if self.command == "GET" else {}
         for name, value in {**HEADERS, "Content-Type": f"{kind}; charset=utf-8", **more}.items():
             self.send_header(name, value)
-        if self.command == "GET":
-            self.send_header("Content-Length", str(len(text)))
         self.end_headers()
-        if self.command == "GET":
-            self.wfile.write(text)
-
-    def log_message(self, *_):
-        pass
+        self.wfile.write(text if self.command == "GET" else b"")
 
 
 def serve(port, files, make):
     """Serves until a signal ends it. Files that can't be read at the start are a fault."""
     page = Page(files, make)
     page.text()
+    signal.signal(signal.SIGPIPE, signal.SIG_IGN)
     try:
         server = Server(("127.0.0.1", port), Handler)
     except OSError as fault:
