@@ -80,14 +80,11 @@ class Browser:
         with open(path, "wb") as file:
             file.write(base64.b64decode(self.do("Page.captureScreenshot", format="png", captureBeyondViewport=whole)["data"]))
 
-    def spent(self):
-        """The processor seconds of the browser's processes so far."""
-        told = subprocess.run(["ps", "-eo", "pid=,ppid=,cputimes="], capture_output=True, text=True, check=True).stdout
-        rows = [[int(it) for it in line.split()] for line in told.splitlines()]
-        own, sums = {self.process.pid}, {pid: seconds for pid, _, seconds in rows}
-        while found := {pid for pid, parent, _ in rows if parent in own} - own:
-            own |= found
-        return sum(sums.get(pid, 0) for pid in own)
+    def busy(self):
+        """The seconds that the page's own thread has worked so far."""
+        self.do("Performance.enable", timeDomain="threadTicks")
+        told = {it["name"]: it["value"] for it in self.do("Performance.getMetrics")["metrics"]}
+        return told["TaskDuration"]
 
     def ends(self):
         self.process.terminate()
