@@ -81,7 +81,7 @@ class Browser:
             file.write(base64.b64decode(self.do("Page.captureScreenshot", format="png", captureBeyondViewport=whole)["data"]))
 
     def busy(self):
-        """The seconds that the page's own thread has worked so far."""
+        """The seconds of its processor that the page's own thread has worked since this was asked first."""
         self.do("Performance.enable", timeDomain="threadTicks")
         told = {it["name"]: it["value"] for it in self.do("Performance.getMetrics")["metrics"]}
         return told["TaskDuration"]
