@@ -13,20 +13,21 @@ EXACT = 2**53  # below it a script's numbers are exact; others are put as text
 
 
 def packed(lines):
-    """Lines, compact. Those with the same members are a table: the members, how many lines, and a column for each member.
+    """Lines, compact. Those with the same members are a table: the members, how many lines, and a column for each.
     Beside the tables stands which of them has each line; 0, where one has all."""
     tables, order = {}, []
     for line in lines:
         number, rows = tables.setdefault(tuple(line), (len(tables), []))
         order.append(number)
         rows.append(line)
-    made = [[names, len(rows), [column([row[name] for row in rows]) for name in names]] for names, (_, rows) in tables.items()]
-    return [made, order if len(made) > 1 else 0]
+    for names, (_, rows) in tables.items():
+        tables[names] = names, len(rows), [column([row[name] for row in rows]) for name in names]
+    return [*tables.values()], order if len(tables) > 1 else 0
 
 
 def column(values):
-    """A member of some lines: `rows`, if each has a list of objects, with the `lengths` of the lists; what is the `same` in
-    all; `steps` from number to number; the `words` that there are, with their `places`; or the values."""
+    """A member of some lines: `rows`, if each has a list of objects, with the `lengths` of the lists; what is `same`
+    in all; `steps` from number to number; the `words` that there are, with their `places`; or the values."""
     if isinstance(values[0], list):
         rows = [it for value in values for it in value]
         are_objects = all(isinstance(it, dict) for it in rows)
@@ -41,8 +42,8 @@ def column(values):
 
 
 def page(statement, day, opening=None, mark=""):
-    """The page. Its data has no `<`, so nothing in it ends or begins an element. A page that is served has a mark, by which
-    it sees whether there is a newer one."""
+    """The page. Its data has no `<`, so nothing in it ends or begins an element. One that is served has a mark, by
+    which it sees whether there is a newer one."""
     with open(FRAME, encoding="utf-8") as file:
         frame = file.read()
     style, script = (re.search(f"<{tag}>(.*?)</", frame, re.DOTALL)[1] for tag in ("style", 'script type="module"'))

@@ -59,9 +59,8 @@ class Server(socketserver.ThreadingTCPServer):
 
 
 class Handler(BaseHTTPRequestHandler):
-    """Answers GET and HEAD of `/`. A request for another host's name is refused: a page of the web can't read this one by a
-    name of its own that leads to this machine."""
-
+    """Answers GET and HEAD of `/`. A request for another host's name is refused: a page of the web can't read this one
+    by a name of its own that leads to this machine."""
     server_version, sys_version, timeout = "page", "", 30
 
     def do_GET(self):
