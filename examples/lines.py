@@ -57,6 +57,10 @@ class Statement:
                 raise Fault(f"{self.name} isn't the lines of a statement") from None
         return self.parsed[kind]
 
+    def text(self):
+        """Its lines, as the program wrote them."""
+        return b"".join(line + b"\n" for lines in self.raw.values() for line in lines).decode()
+
     def sees(self, firm):
         """Whether what a firm does by itself is seen: it is the statement's own, or this is of the whole book."""
         return self.firm in (None, firm)
