@@ -53,6 +53,10 @@ class Server(socketserver.ThreadingTCPServer):
 
     allow_reuse_address = daemon_threads = True
 
+    def __init__(self, *given):
+        signal.signal(signal.SIGPIPE, signal.SIG_IGN)
+        super().__init__(*given)
+
     def handle_error(self, request, client_address):
         if not isinstance(sys.exc_info()[1], OSError):
             super().handle_error(request, client_address)
@@ -91,7 +95,6 @@ def serve(port, files, make):
     """Serves until a signal ends it. Files that can't be read at the start are a fault."""
     page = Page(files, make)
     page.text()
-    signal.signal(signal.SIGPIPE, signal.SIG_IGN)
     try:
         server = Server(("127.0.0.1", port), Handler)
     except OSError as fault:
