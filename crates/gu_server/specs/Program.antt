@@ -215,8 +215,9 @@ pub record HasBegun {A : Type 0} (words : List Text) (bytes_at journal_at : Text
 
 -- ---- statements
 
--- a statement was written, by the house table that the house file of the words names, of the book
--- behind what was read or of that of the journal that they name, and for the firm that they name
+-- a statement was asked for, by the house table that the house file of the words names, of the book
+-- behind what was read or of that of the journal that they name, and for the firm that they name,
+-- which the table has. What was written this doesn't say.
 pub record HasStated {A : Type 0} (words : List Text)
     (bytes_at journal_at : Text → Option (List ℕ)) (old new : Told) (result : Result A RunError)
     : Type 0 where

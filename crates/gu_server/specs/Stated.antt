@@ -42,13 +42,15 @@ IsSaidIn t pin known h =
     (file : List ℕ) × IfSome known (λ bytes. file ≡ bytes) × Recovers t pin file h
     × HasNoLater t pin file h
 
--- the statement of the book behind a stream was written, or the run ended with an error
+-- who asks for the statement of the book behind a stream is told no other fault than a run's. What
+-- was read and written this doesn't say.
 abbrev pub StatesStream : {A : Type 0} → Result A Fault → Type 0
 StatesStream (Ok x) = Unit {0}
 StatesStream (Err (Run e)) = Unit {0}
 StatesStream (Err _) = ⊥
 
--- the statement of such a book was written, or none of it where the journal is at fault
+-- the journal says such a book, or nothing was written, since it is at fault. What was written of
+-- the book this doesn't say.
 abbrev pub StatesJournal : {A : Type 0} → House → List ℕ → Option (List ℕ) → Option (List ℕ)
     → Option (List ℕ) → ℕ → ℕ → Result A Fault → Type 0
 StatesJournal t pin known old new failed_before failed (Ok x) =
@@ -61,8 +63,8 @@ StatesJournal t pin known old new failed_before failed (Err (Keep e)) =
     (new ≡ old) × (failed ≡ failed_before)
 StatesJournal t pin known old new failed_before failed (Err _) = ⊥
 
--- the statement was written of the book behind what was read; or of one that a journal says, whose
--- bytes are these where they are known, and nothing was read
+-- of the book behind what was read nothing is said; or a journal says a book, whose bytes are these
+-- where they are known, and nothing was read
 abbrev pub States : House → List ℕ → Option (Option (List ℕ)) → Told → Told → Type 0
 States t pin None old new = Unit {0}
 States t pin (Some known) old new =
